@@ -83,8 +83,30 @@ def targets(op, b):
     return [("bvsub", [b, one]), ("bvadd", [b, one]), b, literal(w, 0), literal(w, 2**w - 1)]
 
 
+def joined(op, t):
+    """The conjuncts of a term, or its disjuncts."""
+    return [part for a in t[1] for part in joined(op, a)] if not isinstance(t, str) and t[0] == op else [t]
+
+
+def is_inside(first, end, t):
+    return any(first <= level < end for level in levels_of(t))
+
+
+def definitions(first, end, region, x):
+    """The conjunction of what the clauses with the negation of the place say where it is true."""
+    no = "not", [f"v{x}:bool"]
+
+    def says(c):
+        others = [d for d in joined("or", c) if d != no]
+        return no in joined("or", c) and not any(x in levels_of(d) or is_inside(first, end, d) for d in others)
+
+    conjuncts = joined("and", region)
+    clauses = [replaced(c, {x: "bool:1"}) for c in nodes_of(region, []) if c in conjuncts and says(c)]
+    return [joined_left(clauses)] if clauses else []
+
+
 def candidates(first, end, region, x):
-    found = []
+    found = definitions(first, end, region, x)
     for t in nodes_of(region, []):
         if level_of(t) == x and sort_of(t) == "bool":
             found += ["bool:1", "bool:0"]
@@ -94,7 +116,7 @@ def candidates(first, end, region, x):
             continue
         side, other = t[1] if x in levels_of(t[1][0]) else t[1][::-1]
         found += [u for b in targets(t[0], other) if (u := descend(x, side, b)) is not None]
-    return [u for u in found if not any(first <= level < end for level in levels_of(u))]
+    return [u for u in found if not is_inside(first, end, u)]
 
 
 def is_true(region, point):
@@ -176,20 +198,20 @@ def note(text):
 def asked(first, point, region, wanted=None):
     """A case, and the answer of a worked example."""
     steps = choose(first, len(point), region, point)
-    answer = joined(term for _, _, term in steps)
+    answer = texts(term for _, _, term in steps)
     assert wanted in [None, answer], (show(region), answer)
     LINES.append((line_of(first, point, region), answer))
     for x, (there, offers, _) in enumerate(steps, first):
-        OFFERED[f"candidates {first} {len(point)} {x} | {show(there)}"] = joined(offers)
+        OFFERED[f"candidates {first} {len(point)} {x} | {show(there)}"] = texts(offers)
 
 
-def joined(terms):
+def texts(terms):
     return "; ".join(map(show, terms)) or "no terms"
 
 
 def offered(first, end, x, region, wanted):
     """The candidates of one place."""
-    answer = joined(candidates(first, end, region, x))
+    answer = texts(candidates(first, end, region, x))
     assert answer == wanted, (show(region), answer)
     LINES.append((f"candidates {first} {end} {x} | {show(region)}", answer))
 
@@ -337,7 +359,7 @@ def joined_at_random(chosen, parts):
 
 def by_conjuncts(first, point, region, wanted=None):
     """A case, without rows of candidates."""
-    answer = joined(term for _, _, term in choose(first, len(point), region, point))
+    answer = texts(term for _, _, term in choose(first, len(point), region, point))
     assert wanted in [None, answer], (show(region), answer)
     LINES.append((line_of(first, point, region), answer))
 
@@ -420,6 +442,114 @@ def conjoined(chosen):
         by_conjuncts(*conjoined_case(chosen))
 
 
+def negated(t):
+    return "not", [t]
+
+
+def clause(*literals):
+    """A disjunction, by halves."""
+    cut = len(literals) // 2
+    return literals[0] if len(literals) == 1 else ("or", [clause(*literals[:cut]), clause(*literals[cut:])])
+
+
+def gate(kind, g, a, b, c):
+    """The clauses of a gate, and what it computes."""
+    no = negated
+    return {
+        "and": ([(g, no(a), no(b)), (no(g), a), (no(g), b)], lambda x, y, z: x & y),
+        "or": ([(no(g), a, b), (g, no(a)), (g, no(b))], lambda x, y, z: x | y),
+        "xor": ([(no(g), a, b), (g, a, no(b)), (no(g), no(a), no(b)), (g, no(a), b)], lambda x, y, z: x ^ y),
+        "ite": ([(no(a), no(g), b), (no(a), g, no(b)), (a, no(g), c), (a, g, no(c))], lambda x, y, z: y if x else z),
+        "same": ([(no(g), a), (g, no(a))], lambda x, y, z: x),
+        "not": ([(no(g), no(a)), (g, a)], lambda x, y, z: 1 - x),
+        "true": ([(g,)], lambda x, y, z: 1),
+        "false": ([(no(g),)], lambda x, y, z: 0),
+    }[kind]
+
+
+def bools(*values):
+    return [("bool", value) for value in values]
+
+
+def circuit_case(chosen):
+    """Gates over the places before them, some of the block's, in clauses in any order, and more clauses."""
+    values = [chosen.randrange(2) for _ in range(chosen.randrange(1, 4))]
+    first, clauses = len(values), []
+    places = [f"v{k}:bool" for k in range(8)]
+    for _ in range(chosen.randrange(1, 5)):
+        inputs = [chosen.randrange(len(values)) for _ in range(3)]
+        kind = chosen.choice(["and", "and", "or", "xor", "xor", "ite", "same", "not", "true", "false"])
+        own, computed = gate(kind, places[len(values)], *(places[k] for k in inputs))
+        values.append(computed(*(values[k] for k in inputs)))
+        clauses += own if chosen.random() < 0.8 else chosen.sample(own, 1)
+    for _ in range(chosen.randrange(4)):
+        some = [chosen.randrange(len(values)) for _ in range(chosen.randrange(1, 4))]
+        literals = [places[k] if chosen.random() < 0.5 else negated(places[k]) for k in some]
+        if is_true(clause(*literals), bools(*values)):
+            clauses.append(literals)
+    chosen.shuffle(clauses)
+    parts = []
+    for literals in clauses:
+        literals = list(literals)
+        chosen.shuffle(literals)
+        parts.append(clause(*literals))
+    return first, bools(*values), joined_at_random(chosen, parts)
+
+
+def defined(chosen):
+    a, b, c, g, h = (f"v{k}:bool" for k in range(5))
+    no = negated
+    note("what clauses define a truth value by: gates, at each point")
+    for kind in ["and", "or", "xor", "ite", "same", "not", "true", "false"]:
+        for x, y, z in [(0, 0, 1), (0, 1, 0), (1, 0, 1), (1, 1, 0)]:
+            clauses, computed = gate(kind, g, a, b, c)
+            asked(3, bools(x, y, z, computed(x, y, z)), joined_left([clause(*literals) for literals in clauses]))
+    one, both = "bool:1 not v0:bool or", "bool:1 not v0:bool or bool:1 not v1:bool or and"
+    note("the same as worked examples")
+    left = lambda kind, g: [clause(*literals) for literals in gate(kind, g, a, b, c)[0]]
+    asked(2, bools(1, 0, 0), joined_left([clause("v2:bool", no(a), no(b)), clause(no("v2:bool"), a), clause(no("v2:bool"), b)]), both)
+    asked(1, bools(1, 1), joined_left([clause(no(b), a), clause(b, no(a))]), one)
+    asked(1, bools(0, 0), no(b), "bool:1 not")
+    asked(1, bools(1, 1), clause(no(a), b), "bool:1")
+    note("a clause of a reader of the block, which says nothing of it, and a gate over a gate")
+    asked(3, bools(1, 0, 1, 0, 1), joined_left([*left("and", g), clause(no(g), h), clause(h, c)]))
+    asked(3, bools(1, 1, 0, 1, 1), joined_left([*left("and", g), clause(no(h), g), clause(h, no(g))]))
+    asked(3, bools(1, 1, 0, 1, 1), joined_left([clause(no(h), g), clause(h, no(g)), *left("and", g)]))
+    note("a definition with which the region doesn't stay true, and one that is true too often")
+    asked(1, bools(1, 0), joined_left([clause(no(b), a), clause(no(b), no(a))]))
+    asked(1, bools(1, 0), joined_left([clause(no(b), a), ("xor", [b, a])]))
+    asked(1, bools(1, 0), ("and", [clause(no(b), a), ("=", [no(b), a])]))
+    note("clauses below other operators, in several conjuncts, and twice")
+    asked(1, bools(1, 1), no(clause(no(b), no(a))))
+    asked(1, bools(1, 1), ("or", [("and", [clause(no(b), a), b]), no(a)]))
+    asked(1, bools(1, 1), joined_left([clause(no(b), a), ("or", [no(a), clause(no(b), a)]), clause(no(b), a)]))
+    asked(2, bools(1, 1, 1), ("and", [clause(no(c), a), ("and", [clause(no(c), b), clause(no(c), a)])]))
+    note("the place twice in a clause, as its negation, and otherwise")
+    asked(1, bools(1, 1), clause(no(b), a, no(b)))
+    asked(1, bools(1, 1), clause(no(b), b, a))
+    asked(1, bools(1, 1), clause(no(b), ("xor", [b, no(a)])))
+    note("literals on bit-vectors beside the place")
+    asked(2, [(8, 5), (8, 7), ("bool", 1)], joined_left([clause(no("v2:bool"), ("bvult", ["v0:8", "v1:8"])), clause("v2:bool", ("bvuge", ["v0:8", "v1:8"]))]), "bool:1 not v0:8 v1:8 bvult or")
+    asked(1, [(8, 5), (8, 7), ("bool", 1)], joined_left([clause(no("v2:bool"), ("bvult", ["v0:8", "v1:8"])), ("bvule", ["v1:8", "8:7"])]))
+    note("places outside the block, and conjunctions that share so much that they count as one")
+    offered(0, 0, 0, clause(no(a), b), "bool:1 not v1:bool or; bool:1; bool:0")
+    offered(0, 0, 0, clause(no(a), b, ("xor", [a, c])), "bool:1; bool:0")
+    offered(0, 1, 0, ("and", [clause(no(a), b), "c0:bool"]), "bool:1 not v1:bool or; bool:1; bool:0")
+    offered(1, 2, 0, ("and", [clause(no(a), b), clause(no(a), c)]), "bool:1 not v2:bool or; bool:1; bool:0")
+    offered(5, 9, 7, ("=", ["v7:8", "v0:8"]), "v0:8")
+    offered(0, 1, 0, clause(no(a), ("=", ["v0:8", "8:1"])), "bool:1; bool:0; 8:1")
+    doubled = ("and", [clause(no(b), a), b])
+    for _ in range(12):
+        doubled = "and", [doubled, doubled]
+    by_conjuncts(1, bools(1, 1), doubled, one)
+    note("random circuits")
+    for _ in range(120):
+        asked(*circuit_case(chosen))
+    note("their candidates")
+    shown = {line for line, _ in LINES}
+    LINES.extend((line, answer) for line, answer in OFFERED.items() if line not in shown)
+
+
 def main():
     chosen = random.Random(16)
     if len(sys.argv) > 1:
@@ -431,6 +561,7 @@ def main():
         return
     cases(chosen)
     conjoined(random.Random(17))
+    defined(random.Random(37))
     write_rows("qv_choose_cases", LINES)
     told = [line.split()[0] for line, answer in LINES if answer not in [None, "bad case"]]
     print(f"{told.count('choose')} regions, {told.count('candidates')} places, {len(LINES)} lines")

@@ -8,7 +8,7 @@ entry: its level and links, that its point is one of its region and of no earlie
 comes behind an entry of level 1, and behind one whose winner doesn't own its block only one that is linked to it alone. Where
 the winner owns the block: that the terms are over the places before it, and the region has the value of the later one with the
 terms put in and no more distinct terms. Where the other player does: that the region fixes bits of the point, each bit once
-and of places that occur in a linked region, and that from each of its points all values of the block lead to a linked region.
+and of places that occur in a linked region, or is what lies outside some of the owner's regions of the level, and that from each of its points all values of the block lead to a linked region.
 Of a game: that it has as many entries as its record counts instances, and that no clause list of it has more variables than
 its limit. Prefixes, matrices and values are those of bench/cases/prenex_cases.py, clause lists those of bench/cases/blast_cases.py, and
 who wins is tried by all values. Which candidates a choice takes is shown by qv_choose_cases.
@@ -128,7 +128,7 @@ class Game:
         owner, sorts = self.blocks[e.level - 1]
         if owner == e.winner:
             return self.fault_of_owned(e, first, sorts, ends)
-        return self.fault_of_forced(e, first, sorts, ends)
+        return self.fault_of_forced(earlier, e, first, sorts, ends)
 
     def fault_of_owned(self, e, first, sorts, ends):
         if len(ends) != 1:
@@ -140,14 +140,15 @@ class Game:
             return "region of another value"
         return "region too large" if len(distinct(e.region)) > len(distinct(led)) else None
 
-    def fault_of_forced(self, e, first, sorts, ends):
+    def fault_of_forced(self, earlier, e, first, sorts, ends):
         if e.terms:
             return "terms"
-        bits = [bit for part in conjuncts(e.region) for bit in fixed_bits(part, e.point)]
-        if len(set(bits)) < len(bits) or any(bit is None for bit in bits):
-            return "not of bits of the point"
-        if not {place for place, _ in bits} <= {level for t in ends for level, _ in variables(t)}:
-            return "a place that doesn't occur"
+        if not is_outside(earlier, e):
+            bits = [bit for part in conjuncts(e.region) for bit in fixed_bits(part, e.point)]
+            if len(set(bits)) < len(bits) or any(bit is None for bit in bits):
+                return "neither of bits of the point nor the outside of regions"
+            if not {place for place, _ in bits} <= {level for t in ends for level, _ in variables(t)}:
+                return "a place that doesn't occur"
         for point in self.points(0, first):
             if is_true(e.region, point):
                 for more in self.points(first, first + len(sorts)):
@@ -161,6 +162,12 @@ def conjuncts(region):
     if region[0] == "and":
         return [*conjuncts(region[1][0]), region[1][1]]
     return [] if region[0] == "bool:1" else [region]
+
+
+def is_outside(earlier, e):
+    """Whether the region is what lies outside some regions of the other player at the level."""
+    rivals = [f.region for f in earlier if f.level == e.level and f.winner != e.winner]
+    return all(part[0] == "not" and part[1][0] in rivals for part in conjuncts(e.region)) and e.region[0] != "bool:1"
 
 
 def fixed_bits(part, point):

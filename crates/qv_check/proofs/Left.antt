@@ -16,13 +16,13 @@ use Rattle.qv_cnf.specs.Refutation.{Standing}
 use Rattle.qv_cert_formulas.specs.Starts.{MayStart}
 use Rattle.qv_check_lines.specs.declared.verdict.Verdict.{Verdict}
 use Rattle.qv_check_lines.specs.declared.lines.Numbered.{Numbered}
-use Rattle.qv_check_lines.specs.Judging.{IsFor, IsVerdictFrom, LeadsTo}
+use Rattle.qv_check_lines.specs.Judging.{ComesTo, IsFor, IsVerdictFrom}
 use Rattle.qv_check.specs.Nodes.{ends_nodes, fits_version, LeadsAlong}
 use Rattle.qv_check_lines.specs.Refusing.{IsRefusal}
 use Rattle.qv_check_lines.specs.Rewriting.{state_with}
-use Rattle.qv_check_lines.proofs.Judged.{goes-on, same-line}
+use Rattle.qv_check_lines.proofs.Judged.{comes-further, comes-on, comes-same}
 use Rattle.qv_check_lines.proofs.Rewritten.{is-refusal}
-use Rattle.qv_check.proofs.ListedLines.{for-later, leads-further}
+use Rattle.qv_check.proofs.ListedLines.{for-later}
 
 pub may_start : (p : Problem) (answer : Answer) (l : PlainListed) → IsSoFar p answer l → MayStart p answer l
 may_start p Sat l h = h.each
@@ -89,27 +89,27 @@ along-same task s t u given old new next outside later at f = record {
   behind = f.behind;
   number_is = f.number_is;
   next_is = f.next_is;
-  leads = λ now left verdict h. f.leads now left verdict (same-line task t u f.behind now f.before new left next.line verdict outside later f.next_is at h);
+  leads = comes-further task s t u given f.behind f.behind old f.before f.before f.leads (comes-same task t u f.behind f.before new next.line outside later f.next_is at);
 }
 
 pub along-goes : (task : Task) (s t u : State) (given later : ℕ) (old new : Option Text) (next : Numbered) → is_refuting t ≡ false → next.number ≡ later → at_place task t (cert_line_of next.line) ≡ GoesOn u
-    → LeadsAlong task s given old t next new → LeadsTo task s given old u later new
+    → LeadsAlong task s given old t next new → ComesTo task s given old u later new
 along-goes task s t u given later old new next outside count at f =
-    λ now left verdict h. f.leads now left verdict (goes-on task t u f.behind later false f.before new next.line (sym count ∙ f.number_is) outside f.next_is at now left verdict h)
+    comes-further task s t u given f.behind later old f.before new f.leads (comes-on task t u f.behind later f.before new next.line (sym count ∙ f.number_is) outside f.next_is at)
 
 pub along-ends : (task : Task) (s t : State) (given now : ℕ) (old new left : Option Text) (next : Numbered) (verdict : Verdict) → is_refuting t ≡ false → IsRefusal task t (cert_line_of next.line) next.number verdict
     → LeadsAlong task s given old t next new → IsVerdictFrom task s given old now left verdict
 along-ends task s t given now old new left next verdict outside h f =
-    f.leads now left verdict (is-refusal task t f.behind now next.number f.before new left next.line verdict f.number_is outside f.next_is h)
+    f.leads.judged now left verdict (is-refusal task t f.behind now next.number f.before new left next.line verdict f.number_is outside f.next_is h)
 
 -- to further lines of that kind, or to the refutation
 pub along-none : (task : Task) (answer : Answer) (before after : List Tree) (s : State) (given later : ℕ) (old new : Option Text) (next : Numbered) (found : Option Standing) → found ≡ None → next.number ≡ later
-    → at_place task (Rewriting answer before) (cert_line_of next.line) ≡ GoesOn (state_with answer found after) → LeadsAlong task s given old (Rewriting answer before) next new → LeadsTo task s given old (Rewriting answer after) later new
+    → at_place task (Rewriting answer before) (cert_line_of next.line) ≡ GoesOn (state_with answer found after) → LeadsAlong task s given old (Rewriting answer before) next new → ComesTo task s given old (Rewriting answer after) later new
 along-none task answer before after s given later old new next found is count at f =
     along-goes task s (Rewriting answer before) (Rewriting answer after) given later old new next refl count (at ∙ ap (λ (x : Option Standing). GoesOn (state_with answer x after)) is) f
 
 pub along-some : (task : Task) (answer : Answer) (before after : List Tree) (s : State) (given later : ℕ) (old new : Option Text) (next : Numbered) (found : Option Standing) (checker : Standing) → found ≡ Some checker → next.number ≡ later
-    → at_place task (Rewriting answer before) (cert_line_of next.line) ≡ GoesOn (state_with answer found after) → LeadsAlong task s given old (Rewriting answer before) next new → LeadsTo task s given old (Refuting answer checker) later new
+    → at_place task (Rewriting answer before) (cert_line_of next.line) ≡ GoesOn (state_with answer found after) → LeadsAlong task s given old (Rewriting answer before) next new → ComesTo task s given old (Refuting answer checker) later new
 along-some task answer before after s given later old new next found checker is count at f =
     along-goes task s (Rewriting answer before) (Refuting answer checker) given later old new next refl count (at ∙ ap (λ (x : Option Standing). GoesOn (state_with answer x after)) is) f
 
@@ -138,16 +138,16 @@ begun-fails task answer none given now old left verdict is h = subst (λ (x : Pl
 -- ---- up to the refutation
 
 pub passed-goes : (p : Problem) (version : ℕ) (answer : Answer) (formulas : List Tree) (given middle later : ℕ) (old between new : Option Text) (r : Result Standing Verdict)
-    → ((task : Task) → IsFor p version task → LeadsTo task (Listing answer nothing) given old (Rewriting answer formulas) middle between)
-    → IfOk r (λ checker. (task : Task) (a : Answer) → LeadsTo task (Rewriting a formulas) middle between (Refuting a checker) later new)
-    → IfOk r (λ checker. (task : Task) → IsFor p version task → LeadsTo task (Listing answer nothing) given old (Refuting answer checker) later new)
+    → ((task : Task) → IsFor p version task → ComesTo task (Listing answer nothing) given old (Rewriting answer formulas) middle between)
+    → IfOk r (λ checker. (task : Task) (a : Answer) → ComesTo task (Rewriting a formulas) middle between (Refuting a checker) later new)
+    → IfOk r (λ checker. (task : Task) → IsFor p version task → ComesTo task (Listing answer nothing) given old (Refuting answer checker) later new)
 passed-goes p version answer formulas given middle later old between new (Ok checker) f g =
-    λ task about. leads-further task (Listing answer nothing) (Rewriting answer formulas) (Refuting answer checker) given middle later old between new (f task about) (g task answer)
+    λ task about. comes-further task (Listing answer nothing) (Rewriting answer formulas) (Refuting answer checker) given middle later old between new (f task about) (g task answer)
 passed-goes p version answer formulas given middle later old between new (Err v) f g = tt
 
 pub passed-fails : (p : Problem) (version : ℕ) (answer : Answer) (formulas : List Tree) (given middle now : ℕ) (old between left : Option Text) (r : Result Standing Verdict)
-    → ((task : Task) → IsFor p version task → LeadsTo task (Listing answer nothing) given old (Rewriting answer formulas) middle between)
+    → ((task : Task) → IsFor p version task → ComesTo task (Listing answer nothing) given old (Rewriting answer formulas) middle between)
     → IfErr r (λ verdict. (task : Task) (a : Answer) → IsVerdictFrom task (Rewriting a formulas) middle between now left verdict)
     → IfErr r (λ verdict. (task : Task) → IsFor p version task → IsVerdictFrom task (Listing answer nothing) given old now left verdict)
 passed-fails p version answer formulas given middle now old between left (Ok checker) f g = tt
-passed-fails p version answer formulas given middle now old between left (Err v) f g = λ task about. f task about now left v (g task answer)
+passed-fails p version answer formulas given middle now old between left (Err v) f g = λ task about. (f task about).judged now left v (g task answer)

@@ -25,9 +25,9 @@ use Rattle.qv_cert_nodes.specs.Pushing.{Lists}
 use Rattle.qv_cert_nodes.proofs.Gathering.{problem-stays}
 use Rattle.qv_check_lines.specs.declared.verdict.Verdict.{Verdict}
 use Rattle.qv_check_lines.specs.declared.lines.Numbered.{Numbered}
-use Rattle.qv_check_lines.specs.Judging.{IsVerdictFrom, LeadsTo, IsNextLine, kind_at, IsFor}
+use Rattle.qv_check_lines.specs.Judging.{IsVerdictFrom, ComesTo, IsNextLine, kind_at, IsFor}
 use Rattle.qv_check.specs.Nodes.{ends_nodes, IsGiven, LeadsAlong, LeadsOn}
-use Rattle.qv_check_lines.proofs.Judged.{goes-on}
+use Rattle.qv_check_lines.proofs.Judged.{comes-further, comes-here, comes-on}
 use Rattle.qv_check_lines.proofs.Rewritten.{is-refusal}
 
 -- a line that comes among the nodes
@@ -103,13 +103,13 @@ comes-behind task s given before after next count is = record {
   behind = given;
   number_is = omega (arith, count);
   next_is = is;
-  leads = λ now left verdict h. h;
+  leads = comes-here task s given before;
 }
 
 -- it was listed
 pub goes-listed : (task : Task) (answer : Answer) (old new : PlainListed) (given later number : ℕ) (before after : Option Text) (line : Line) → later ≡ given + 1 → IsNextLine false before line after
-    → IsGiven task answer old (cert_line_of line) number (Ok tt) new → LeadsTo task (Listing answer old) given before (Listing answer new) later after
-goes-listed task answer old new given later number before after line count next h = goes-on task (Listing answer old) (Listing answer new) given later false before after line (omega (arith, count)) refl next h
+    → IsGiven task answer old (cert_line_of line) number (Ok tt) new → ComesTo task (Listing answer old) given before (Listing answer new) later after
+goes-listed task answer old new given later number before after line count next h = comes-on task (Listing answer old) (Listing answer new) given later before after line (omega (arith, count)) refl next h
 
 pub fails-listed : (task : Task) (answer : Answer) (old new : PlainListed) (given now number : ℕ) (before after left : Option Text) (line : Line) (verdict : Verdict) → number ≡ given + 1 → IsNextLine false before line after
     → IsGiven task answer old (cert_line_of line) number (Err verdict) new → IsVerdictFrom task (Listing answer old) given before now left verdict
@@ -120,22 +120,19 @@ fails-listed task answer old new given now number before after left line verdict
 pub for-later : (p q : Problem) (version later : ℕ) (task : Task) → q ≡ p → later ≡ version → IsFor p version task → IsFor q later task
 for-later p q version later task e is h = record { problem = h.problem ∙ sym e; version = h.version ∙ sym is }
 
-pub leads-further : (task : Task) (s t u : State) (given middle later : ℕ) (old between new : Option Text) → LeadsTo task s given old t middle between → LeadsTo task t middle between u later new → LeadsTo task s given old u later new
-leads-further task s t u given middle later old between new f g = λ now left verdict h. f now left verdict (g now left verdict h)
-
-pub leads-along : (task : Task) (s t u : State) (given middle : ℕ) (old between new : Option Text) (next : Numbered) → LeadsTo task s given old t middle between → LeadsAlong task t middle between u next new → LeadsAlong task s given old u next new
+pub leads-along : (task : Task) (s t u : State) (given middle : ℕ) (old between new : Option Text) (next : Numbered) → ComesTo task s given old t middle between → LeadsAlong task t middle between u next new → LeadsAlong task s given old u next new
 leads-along task s t u given middle old between new next f g = record {
   before = g.before;
   behind = g.behind;
   number_is = g.number_is;
   next_is = g.next_is;
-  leads = λ now left verdict h. f now left verdict (g.leads now left verdict h);
+  leads = comes-further task s t u given middle g.behind old between g.before f g.leads;
 }
 
 -- a line that was found, or none
 pub found-along : (task : Task) (s t : State) (given later : ℕ) (old new : Option Text) (found : Option Numbered) (next : Numbered) → found ≡ Some next → LeadsOn task s given old t later new found → LeadsAlong task s given old t next new
 found-along task s t given later old new found next is h = subst (LeadsOn task s given old t later new) is h
 
-pub none-found : (task : Task) (s t : State) (given later : ℕ) (old new : Option Text) (found : Option Numbered) → ((next : Numbered) → found ≡ Some next → ⊥) → LeadsOn task s given old t later new found → LeadsTo task s given old t later new
+pub none-found : (task : Task) (s t : State) (given later : ℕ) (old new : Option Text) (found : Option Numbered) → ((next : Numbered) → found ≡ Some next → ⊥) → LeadsOn task s given old t later new found → ComesTo task s given old t later new
 none-found task s t given later old new None other h = h
 none-found task s t given later old new (Some next) other h = absurd (other next refl)

@@ -12,9 +12,9 @@ use Rattle.qv_cert.specs.Text.{Text}
 use Rattle.qv_cert.specs.Section.{Task, Opening, Closing, Outcome, GoesOn, Refuses, unless, opened, at_place, fault_at}
 use Rattle.qv_check_lines.specs.declared.verdict.Verdict.{Verdict}
 use Rattle.qv_check_lines.specs.declared.verdict.Verdict.TheVariants.{Accepted, Refused, PrefixLimit, ReadFault, ReadLimit, NoMemory}
-use Rattle.qv_check_lines.specs.Judging.{IsVerdictFrom, LeadsTo, IsNextLine, kind_at}
+use Rattle.qv_check_lines.specs.Judging.{ComesTo, IsVerdictFrom, LeadsTo, IsNextLine, kind_at}
 use Rattle.qv_check.specs.Opening.{IsOpened, IsClosed}
-use Rattle.qv_check_lines.proofs.Judged.{goes-on, is-accepted}
+use Rattle.qv_check_lines.proofs.Judged.{comes-on, is-accepted}
 use Rattle.qv_check_lines.proofs.Rewritten.{is-refusal}
 use Rattle.qv_cert.proofs.Pinned.{number-same}
 
@@ -46,8 +46,8 @@ opens-not task number found answer e other = ap (numbered answer) (other-number 
 
 pub opened-goes : (wanted given later number : ℕ) (before after : Option Text) (line : Line) (r : Result Answer Verdict) → later ≡ given + 1 → IsNextLine false before line after
     → ((task : Task) → task.number ≡ wanted → IsOpened task (cert_line_of line) number r)
-    → IfOk r (λ answer. (task : Task) → task.number ≡ wanted → LeadsTo task Opening given before (opened answer) later after)
-opened-goes wanted given later number before after line (Ok answer) count next h = λ task e. goes-on task Opening (opened answer) given later false before after line (omega (arith, count)) refl next (h task e)
+    → IfOk r (λ answer. (task : Task) → task.number ≡ wanted → ComesTo task Opening given before (opened answer) later after)
+opened-goes wanted given later number before after line (Ok answer) count next h = λ task e. comes-on task Opening (opened answer) given later before after line (omega (arith, count)) refl next (h task e)
 opened-goes wanted given later number before after line (Err v) count next h = tt
 
 pub opened-fails : (wanted given now number : ℕ) (before after left : Option Text) (line : Line) (r : Result Answer Verdict) → number ≡ given + 1 → IsNextLine false before line after
@@ -66,5 +66,8 @@ closed task given later number before after line ReadLimit is count next h = abs
 closed task given later number before after line NoMemory is count next h = is-refusal task Closing given later number before after after line NoMemory (omega (arith, is)) refl next h
 
 -- behind the `check` line of this answer
-pub opened-leads : (task : Task) (found answer : Answer) (given later : ℕ) (old new : Option Text) → found ≡ answer → LeadsTo task Opening given old (opened found) later new → LeadsTo task Opening given old (opened answer) later new
-opened-leads task found answer given later old new is h = subst (λ (a : Answer). LeadsTo task Opening given old (opened a) later new) is h
+pub opened-comes : (task : Task) (found answer : Answer) (given later : ℕ) (old new : Option Text) → found ≡ answer → ComesTo task Opening given old (opened found) later new → ComesTo task Opening given old (opened answer) later new
+opened-comes task found answer given later old new is h = subst (λ (a : Answer). ComesTo task Opening given old (opened a) later new) is h
+
+pub opened-leads : (task : Task) (found answer : Answer) (given later : ℕ) (old new : Option Text) → found ≡ answer → ComesTo task Opening given old (opened found) later new → LeadsTo task Opening given old (opened answer) later new
+opened-leads task found answer given later old new is h = (opened-comes task found answer given later old new is h).judged

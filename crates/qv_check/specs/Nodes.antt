@@ -7,7 +7,7 @@ use Rattle.qv_cert.specs.Listed.{Listed}
 use Rattle.qv_cert.specs.Section.{Task, State, GoesOn, Listing, at_place}
 use Rattle.qv_check_lines.specs.declared.verdict.Verdict.{Verdict}
 use Rattle.qv_check_lines.specs.declared.lines.Numbered.{Numbered}
-use Rattle.qv_check_lines.specs.Judging.{LeadsTo, IsNextLine}
+use Rattle.qv_check_lines.specs.Judging.{ComesTo, IsNextLine}
 use Rattle.qv_check_lines.specs.Refusing.{IsRefusal}
 
 -- a rule or the refutation comes behind the nodes
@@ -26,15 +26,15 @@ abbrev pub IsGiven : Task → Answer → Listed → CertLine → ℕ → Result 
 IsGiven task answer old line number (Ok done) new = at_place task (Listing answer old) line ≡ GoesOn (Listing answer new)
 IsGiven task answer old line number (Err verdict) new = IsRefusal task (Listing answer old) line number verdict
 
--- what is judged from the line of a later state on is judged from the earlier state on
+-- what comes from the line of a later state on comes from the earlier state on
 pub record LeadsAlong (task : Task) (s : State) (given : ℕ) (old : Option Text) (t : State) (next : Numbered) (new : Option Text) : Type 0 where
   pub before : Option Text
   pub behind : ℕ
   pub number_is : next.number ≡ suc behind
   pub next_is : IsNextLine false before next.line new
-  pub leads : LeadsTo task s given old t behind before
+  pub leads : ComesTo task s given old t behind before
 
 -- the later state's line was read, or none
 abbrev pub LeadsOn : Task → State → ℕ → Option Text → State → ℕ → Option Text → Option Numbered → Type 0
-LeadsOn task s given old t later new None = LeadsTo task s given old t later new
+LeadsOn task s given old t later new None = ComesTo task s given old t later new
 LeadsOn task s given old t later new (Some next) = LeadsAlong task s given old t next new

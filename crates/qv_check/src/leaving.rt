@@ -14,7 +14,7 @@ ghost use Rattle.qv_cert.specs.Section.{Task, Listing, Refuting, Rewriting, at_p
 ghost use Rattle.qv_cert.specs.SoFar.{IsSoFar};
 ghost use Rattle.qv_cert_nodes.specs.Lists.{listed_in, IsListed};
 ghost use Rattle.qv_check_lines.specs.Ending.{EndsBy, TookWith};
-ghost use Rattle.qv_check_lines.specs.Judging.{IsFor, IsVerdictFrom, LeadsTo};
+ghost use Rattle.qv_check_lines.specs.Judging.{ComesTo, IsFor, IsVerdictFrom};
 ghost use Rattle.qv_check.specs.Nodes.{ends_nodes, fits_version, LeadsAlong};
 ghost use Rattle.qv_check_lines.specs.Refusing.{IsRefusal};
 
@@ -160,9 +160,9 @@ fn read_list<S: Source>(
     Ok(Begun { next, formulas })
 }
 
-// Reads the lines of a section up to `lrat`, and gives a checker of the clauses of its formulas.
+/// Reads the lines of a section up to `lrat`, and gives a checker of the clauses of its formulas.
 #[tactic(auto, using(qv_check_lines::proofs::Ended::ends_later))]
-pub(crate) fn read_to_lrat<S: Source>(
+pub fn read_to_lrat<S: Source>(
     alloc: Global,
     answer: Answer,
     store: &mut Store,
@@ -175,7 +175,7 @@ pub(crate) fn read_to_lrat<S: Source>(
     requires reads { reader.old.stopped ≡ None }
     ensures goes { IfOk result (λ checker. (task : Task) →
         IsFor (problem_in store.old problem.now) reader.old.version task →
-        LeadsTo task (Listing answer nothing) reader.old.given
+        ComesTo task (Listing answer nothing) reader.old.given
         (to_give reader.old.rest (S.left source.old)) (Refuting answer checker)
         reader.new.given (to_give reader.new.rest (S.left source.new))) }
     ensures err { IfErr result (λ verdict. (task : Task) →

@@ -9,4 +9,6 @@ mod opening;
 mod section;
 
 pub use checking::check_one;
+pub use leaving::read_to_lrat;
+pub use opening::{close, open};
 pub use qv_check_lines::Verdict;

@@ -6,7 +6,7 @@ ghost use Rattle.qv_cert.specs.CertReader.{to_give, piece_size};
 ghost use Rattle.qv_cert.specs.LineView.{cert_line_of};
 ghost use Rattle.qv_cert.specs.Section.{Task, Opening, Closing, opened};
 ghost use Rattle.qv_check_lines.specs.Ending.{EndsBy, TookBy, TookWith};
-ghost use Rattle.qv_check_lines.specs.Judging.{IsVerdictFrom, LeadsTo};
+ghost use Rattle.qv_check_lines.specs.Judging.{ComesTo, IsVerdictFrom};
 ghost use Rattle.qv_check.specs.Opening.{IsOpened, IsClosed};
 
 use qv_cert::{CertReader, Line, RefusalKind};
@@ -51,8 +51,8 @@ fn take_check(number: u64, next: &Numbered) -> Result<Answer, Verdict>
     }
 }
 
-// Reads the `check` line of the section of this number, and gives its answer.
-pub(crate) fn open<S: Source>(
+/// Reads the `check` line of the section of this number, and gives its answer.
+pub fn open<S: Source>(
     number: u64,
     reader: &mut CertReader,
     source: &mut S,
@@ -60,7 +60,7 @@ pub(crate) fn open<S: Source>(
     requires begun { 0 < reader.old.given }
     requires reads { reader.old.stopped ≡ None }
     ensures goes { IfOk result (λ answer. (task : Task) → task.number ≡ number →
-        LeadsTo task Opening reader.old.given (to_give reader.old.rest (S.left source.old))
+        ComesTo task Opening reader.old.given (to_give reader.old.rest (S.left source.old))
         (opened answer) reader.new.given (to_give reader.new.rest (S.left source.new))) }
     ensures err { IfErr result (λ verdict. (task : Task) → task.number ≡ number →
         IsVerdictFrom task Opening reader.old.given
@@ -110,8 +110,8 @@ fn take_end(next: &Numbered) -> Verdict
     }
 }
 
-// Reads the end of an unknown section.
-pub(crate) fn close<S: Source>(reader: &mut CertReader, source: &mut S) -> Verdict
+/// Reads the end of an unknown section.
+pub fn close<S: Source>(reader: &mut CertReader, source: &mut S) -> Verdict
     requires begun { 0 < reader.old.given }
     requires reads { reader.old.stopped ≡ None }
     ensures verdict { (task : Task) → IsVerdictFrom task Closing reader.old.given

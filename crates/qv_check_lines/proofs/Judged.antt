@@ -5,6 +5,7 @@ use Rattle.std.specs.Bool.{OnFalse}
 use Rattle.qv_words.specs.declared.op.Answer.{Answer}
 use Rattle.qv_cert.specs.declared.kind.RefusalKind.{RefusalKind}
 use Rattle.qv_cert.specs.declared.kind.RefusalKind.TheVariants as kind
+use Rattle.qv_cnf.specs.Literal.{Literal}
 use Rattle.qv_cnf.specs.LratLine.{LratLine}
 use Rattle.qv_cnf.specs.Refutation.{Standing}
 use Rattle.qv_rup.specs.declared.faults.StepFault.{StepFault}
@@ -16,10 +17,11 @@ use Rattle.qv_cert.specs.LineView.{cert_line_of}
 use Rattle.qv_cert.specs.Grammar.{Reading, cert_line}
 use Rattle.qv_cert.specs.Text.{Text, AtEnd, Faulty, next_of, next_of_reading, line_behind}
 use Rattle.qv_cert.specs.CertReader.{with_line, next_in}
-use Rattle.qv_cert.specs.Section.{Task, State, Refuting, Outcome, GoesOn, Accepts, Refuses, Judged, AcceptedUpTo, RefusedAt, at_place, by_reading, by_outcome, step, judged_from, fault_at, is_refuting}
+use Rattle.qv_cert.specs.Section.{Task, State, Opening, Closing, Listing, Rewriting, Refuting, Outcome, GoesOn, Accepts, Refuses, Judged, AcceptedUpTo, RefusedAt, at_place, by_reading, by_outcome, step, judged_from, fault_at, is_refuting}
 use Rattle.qv_check_lines.specs.declared.verdict.Verdict.{Verdict}
 use Rattle.qv_check_lines.specs.declared.verdict.Verdict.TheVariants.{Accepted, Refused, PrefixLimit, ReadFault, ReadLimit, NoMemory}
-use Rattle.qv_check_lines.specs.Judging.{ComesBehind, Decides, IsVerdictFrom, LeadsTo, IsNextLine, kind_at}
+use Rattle.qv_check_lines.specs.Judging.{ComesBehind, ComesTo, Decides, IsRefutedFrom, IsVerdictFrom, LeadsTo, IsNextLine, kind_at}
+use Rattle.qv_check_lines.specs.Refuted.{onward, refuted_from}
 use Rattle.qv_check_lines.specs.Steps.{IsTaken, refusal_of}
 use Rattle.qv_check_lines.proofs.OwnFaults.{not-truncated}
 
@@ -80,6 +82,56 @@ same-line task s t given now before after left line verdict es et next at h =
     go : (u : Option Text) → IsVerdictFrom task t given (option_map (with_line next.0) u) now left verdict → IsVerdictFrom task s given (option_map (with_line next.0) u) now left verdict
     go None k = tt
     go (Some u) k = subst (λ (j : Judged). Decides now u.rest left j verdict) (sym (there u.lines)) k
+
+-- ---- before the refutation
+
+-- what comes to be refuted where the first line does this
+pub refuted-by : (task : Task) (s : State) (text : List ℕ) (lines : List (List ℕ)) (o : Outcome) → is_refuting s ≡ false → step task s text ≡ o
+    → refuted_from task s (text ∷ lines) ≡ onward (λ next. refuted_from task next lines) o
+unfolding refuted_from
+refuted-by task Opening text lines o outside is = ap (onward (λ next. refuted_from task next lines)) is
+refuted-by task Closing text lines o outside is = ap (onward (λ next. refuted_from task next lines)) is
+refuted-by task (Listing answer l) text lines o outside is = ap (onward (λ next. refuted_from task next lines)) is
+refuted-by task (Rewriting answer formulas) text lines o outside is = ap (onward (λ next. refuted_from task next lines)) is
+refuted-by task (Refuting answer s) text lines o outside is = absurd cc
+
+pub comes-on : (task : Task) (s t : State) (given later : ℕ) (old new : Option Text) (line : Line) → later ≡ suc given → is_refuting s ≡ false → IsNextLine false old line new
+    → at_place task s (cert_line_of line) ≡ GoesOn t → ComesTo task s given old t later new
+comes-on task s t given later old new line count outside next at = record {
+  judged = goes-on task s t given later false old new line count outside next at;
+  refuted = λ clauses h. subst (λ (o : Option Text). IsRefutedFrom task s o clauses) (sym next.1) (go clauses new h);
+}
+  where
+    go : (clauses : List (List Literal)) (u : Option Text) → IsRefutedFrom task t u clauses → IsRefutedFrom task s (option_map (with_line next.0) u) clauses
+    go clauses None k = tt
+    go clauses (Some u) k = refuted-by task s next.0 u.lines (GoesOn t) outside (does task s false next.0 line (GoesOn t) outside next.2 at) ∙ k
+
+-- where the same line does the same
+pub comes-same : (task : Task) (s t : State) (given : ℕ) (before after : Option Text) (line : Line) → is_refuting s ≡ false → is_refuting t ≡ false → IsNextLine false before line after
+    → at_place task s (cert_line_of line) ≡ at_place task t (cert_line_of line) → ComesTo task s given before t given before
+comes-same task s t given before after line es et next at = record {
+  judged = λ now left verdict h. same-line task s t given now before after left line verdict es et next at h;
+  refuted = λ clauses h. subst (λ (o : Option Text). IsRefutedFrom task s o clauses) (sym next.1) (go clauses after (subst (λ (o : Option Text). IsRefutedFrom task t o clauses) next.1 h));
+}
+  where
+    there : (lines : List (List ℕ)) → refuted_from task s (next.0 ∷ lines) ≡ refuted_from task t (next.0 ∷ lines)
+    there lines =
+        refuted-by task s next.0 lines (at_place task t (cert_line_of line)) es (does task s false next.0 line (at_place task t (cert_line_of line)) es next.2 at)
+        ∙ sym (refuted-by task t next.0 lines (at_place task t (cert_line_of line)) et (does task t false next.0 line (at_place task t (cert_line_of line)) et next.2 refl))
+
+    go : (clauses : List (List Literal)) (u : Option Text) → IsRefutedFrom task t (option_map (with_line next.0) u) clauses → IsRefutedFrom task s (option_map (with_line next.0) u) clauses
+    go clauses None k = tt
+    go clauses (Some u) k = there u.lines ∙ k
+
+-- from a state to itself, and over several lines
+pub comes-here : (task : Task) (s : State) (given : ℕ) (text : Option Text) → ComesTo task s given text s given text
+comes-here task s given text = record { judged = λ now left verdict h. h; refuted = λ clauses h. h }
+
+pub comes-further : (task : Task) (s t u : State) (given middle later : ℕ) (old between new : Option Text) → ComesTo task s given old t middle between → ComesTo task t middle between u later new → ComesTo task s given old u later new
+comes-further task s t u given middle later old between new f g = record {
+  judged = λ now left verdict h. f.judged now left verdict (g.judged now left verdict h);
+  refuted = λ clauses h. f.refuted clauses (g.refuted clauses h);
+}
 
 -- ---- where there is no line
 

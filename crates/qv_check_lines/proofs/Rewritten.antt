@@ -23,10 +23,10 @@ use Rattle.qv_cert.specs.Text.{Text}
 use Rattle.qv_cert.specs.Section.{Task, State, Rewriting, fault_at, is_refuting}
 use Rattle.qv_check_lines.specs.declared.verdict.Verdict.{Verdict}
 use Rattle.qv_check_lines.specs.declared.verdict.Verdict.TheVariants.{Accepted, Refused, PrefixLimit, ReadFault, ReadLimit, NoMemory}
-use Rattle.qv_check_lines.specs.Judging.{IsVerdictFrom, LeadsTo, IsNextLine, kind_at}
+use Rattle.qv_check_lines.specs.Judging.{ComesTo, IsVerdictFrom, IsNextLine, kind_at}
 use Rattle.qv_check_lines.specs.Refusing.{IsRefusal}
 use Rattle.qv_check_lines.specs.Rewriting.{IsLed, state_with}
-use Rattle.qv_check_lines.proofs.Judged.{goes-on, is-refused, no-memory}
+use Rattle.qv_check_lines.proofs.Judged.{comes-further, comes-on, is-refused, no-memory}
 
 -- ---- formulas without quantifiers stay such
 
@@ -70,9 +70,9 @@ is-refusal task s given now number before after left line NoMemory count outside
 
 pub line-goes : (old new : List Tree) (line : Line) (given later number : ℕ) (before after : Option Text) (r : Result (Option Standing) Verdict) → later ≡ suc given → IsNextLine false before line after
     → ((task : Task) (answer : Answer) → IsLed task (Rewriting answer old) answer (cert_line_of line) number r new)
-    → IfOk r (λ found. (task : Task) (answer : Answer) → LeadsTo task (Rewriting answer old) given before (state_with answer found new) later after)
+    → IfOk r (λ found. (task : Task) (answer : Answer) → ComesTo task (Rewriting answer old) given before (state_with answer found new) later after)
 line-goes old new line given later number before after (Ok found) count next h =
-    λ task answer. goes-on task (Rewriting answer old) (state_with answer found new) given later false before after line count refl next (h task answer)
+    λ task answer. comes-on task (Rewriting answer old) (state_with answer found new) given later before after line count refl next (h task answer)
 line-goes old new line given later number before after (Err v) count next h = tt
 
 pub line-fails : (old new : List Tree) (line : Line) (given now number : ℕ) (before after left : Option Text) (r : Result (Option Standing) Verdict) → number ≡ suc given → IsNextLine false before line after
@@ -91,7 +91,8 @@ grows_on a b c f g = grows-more a b c f g
 
 -- ---- further lines
 
-pub led-further : (task : Task) (answer : Answer) (first here new : List Tree) (given middle later : ℕ) (old between left : Option Text) (found is : Option Standing) → found ≡ is → LeadsTo task (Rewriting answer first) given old (Rewriting answer here) middle between
-    → LeadsTo task (Rewriting answer here) middle between (state_with answer found new) later left → LeadsTo task (Rewriting answer first) given old (state_with answer is new) later left
+pub led-further : (task : Task) (answer : Answer) (first here new : List Tree) (given middle later : ℕ) (old between left : Option Text) (found is : Option Standing) → found ≡ is → ComesTo task (Rewriting answer first) given old (Rewriting answer here) middle between
+    → ComesTo task (Rewriting answer here) middle between (state_with answer found new) later left → ComesTo task (Rewriting answer first) given old (state_with answer is new) later left
 led-further task answer first here new given middle later old between left found is e f g =
-    subst (λ (x : Option Standing). LeadsTo task (Rewriting answer first) given old (state_with answer x new) later left) e (λ now rest verdict h. f now rest verdict (g now rest verdict h))
+    subst (λ (x : Option Standing). ComesTo task (Rewriting answer first) given old (state_with answer x new) later left) e
+    (comes-further task (Rewriting answer first) (Rewriting answer here) (state_with answer found new) given middle later old between left f g)

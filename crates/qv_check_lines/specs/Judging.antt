@@ -9,6 +9,8 @@ use Rattle.qv_cert.specs.Grammar.{cert_line}
 use Rattle.qv_cert.specs.Text.{Text}
 use Rattle.qv_cert.specs.CertReader.{with_line}
 use Rattle.qv_cert.specs.Section.{Task, State, Judged, AcceptedUpTo, RefusedAt, judged_from}
+use Rattle.qv_cnf.specs.Literal.{Literal}
+use Rattle.qv_check_lines.specs.Refuted.{refuted_from}
 use Rattle.qv_check_lines.specs.declared.verdict.Verdict.{Verdict}
 use Rattle.qv_check_lines.specs.declared.verdict.Verdict.TheVariants.{Accepted, Refused, PrefixLimit, ReadFault, ReadLimit, NoMemory}
 
@@ -38,6 +40,16 @@ IsVerdictFrom task s given old now left verdict = IfSome old (λ t. Decides now 
 abbrev pub LeadsTo : Task → State → ℕ → Option Text → State → ℕ → Option Text → Type 0
 LeadsTo task s given old t later new =
     (now : ℕ) (left : Option Text) (verdict : Verdict) → IsVerdictFrom task t later new now left verdict → IsVerdictFrom task s given old now left verdict
+
+-- these come to be refuted of the lines that are to be given, from a state on, where they are told
+abbrev pub IsRefutedFrom : Task → State → Option Text → List (List Literal) → Type 0
+IsRefutedFrom task s text clauses = IfSome text (λ t. refuted_from task s t.lines ≡ clauses)
+
+-- Before the refutation: what is judged from the later state on is judged from the earlier one, and
+-- what comes to be refuted is the same.
+pub record ComesTo (task : Task) (s : State) (given : ℕ) (old : Option Text) (t : State) (later : ℕ) (new : Option Text) : Type 0 where
+  pub judged : LeadsTo task s given old t later new
+  pub refuted : (clauses : List (List Literal)) → IsRefutedFrom task t new clauses → IsRefutedFrom task s old clauses
 
 -- the next line was read, in the refutation or outside
 abbrev pub IsNextLine : Bool → Option Text → Line → Option Text → Type 0

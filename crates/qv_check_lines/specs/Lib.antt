@@ -1,4 +1,5 @@
 -- what public contracts cite
+pub mod Refuted
 pub mod Judging
 pub mod Ending
 pub mod Rewriting

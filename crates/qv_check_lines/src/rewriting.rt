@@ -12,7 +12,7 @@ ghost use Rattle.qv_cert.specs.CertReader.{to_give, piece_size};
 ghost use Rattle.qv_cert.specs.LineView.{cert_line_of};
 ghost use Rattle.qv_cert.specs.Section.{Task, Refuting, Rewriting};
 ghost use Rattle.qv_check_lines.specs.Ending.{EndsBy, TookWith};
-ghost use Rattle.qv_check_lines.specs.Judging.{IsVerdictFrom, LeadsTo};
+ghost use Rattle.qv_check_lines.specs.Judging.{ComesTo, IsVerdictFrom};
 ghost use Rattle.qv_check_lines.specs.Rewriting.{IsLed, state_with};
 
 use crate::lines::{Numbered, Place, next_line};
@@ -111,7 +111,7 @@ fn read_line<S: Source>(
     requires begun { 0 < reader.old.given }
     requires reads { reader.old.stopped ≡ None }
     ensures goes { IfOk result (λ found. (task : Task) (answer : Answer) →
-        LeadsTo task (Rewriting answer (named store.old formulas.old.items)) reader.old.given
+        ComesTo task (Rewriting answer (named store.old formulas.old.items)) reader.old.given
         (to_give reader.old.rest (S.left source.old))
         (state_with answer found (named store.new formulas.new.items)) reader.new.given
         (to_give reader.new.rest (S.left source.new))) }
@@ -158,7 +158,7 @@ pub fn read_passes<S: Source>(
     requires begun { 0 < reader.old.given }
     requires reads { reader.old.stopped ≡ None }
     ensures goes { IfOk result (λ checker. (task : Task) (answer : Answer) →
-        LeadsTo task (Rewriting answer (named store.old formulas.old.items)) reader.old.given
+        ComesTo task (Rewriting answer (named store.old formulas.old.items)) reader.old.given
         (to_give reader.old.rest (S.left source.old)) (Refuting answer checker) reader.new.given
         (to_give reader.new.rest (S.left source.new))) }
     ensures err { IfErr result (λ verdict. (task : Task) (answer : Answer) →

@@ -2,11 +2,11 @@ mod Lines
 mod Heading
 mod Closing
 mod Answered
-mod Checked
+pub mod Checked
 mod Sectioning
-mod Leading
+pub mod Leading
 pub mod Limits
-mod Wanting
+pub mod Wanting
 mod LastLinesExample
 pub mod Whole
 pub mod Unfinished

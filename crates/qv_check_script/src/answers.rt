@@ -12,8 +12,8 @@ use qv_script::{Declared, Last, Script, SpentWord};
 use qv_words::{Answer, Word};
 use std::alloc::{AllocError, Global};
 
-/// The answer, with values that nobody prints.
-pub(crate) fn last_of(alloc: Global, script: &Script, answer: Answer) -> Result<Last, AllocError>
+//// What a script keeps of an answer, with values that nobody prints.
+pub fn last_of(alloc: Global, script: &Script, answer: Answer) -> Result<Last, AllocError>
     requires { (trees : List Tree) × (s : State) × IsScriptIn trees script.now s }
     ensures last { IfOk result (λ last. (trees : List Tree) (s : State) →
         IsScriptIn trees script.now s → answer_of last ≡ last_of s answer) }

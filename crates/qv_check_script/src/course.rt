@@ -11,13 +11,14 @@ use std::alloc::Global;
 /// What a script has made so far, in its store, and how many sections were accepted.
 #[derive(Drop)]
 pub struct Course {
-    pub(crate) store: Store,
-    pub(crate) script: Script,
-    pub(crate) checks: u64,
+    pub store: Store,
+    pub script: Script,
+    pub checks: u64,
 }
 
 impl Course {
-    pub(crate) fn new(alloc: Global) -> Course
+    /// Nothing was done.
+    pub fn new(alloc: Global) -> Course
         ensures stands { Stands result opening }
         ensures checks { result.checks ≡ 0 }
     {

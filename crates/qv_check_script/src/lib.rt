@@ -14,6 +14,8 @@ mod texts;
 mod turns;
 mod verifying;
 
+pub use answers::last_of;
+pub use course::Course;
 pub use end::finish;
 pub use ending::{Ending, Halt};
 pub use header::read_header;

@@ -8,8 +8,8 @@ use Rattle.qv_words.specs.Tree.{Tree}
 use Rattle.qv_words.specs.Choice.{candidates, with_term, IsTrueAt, IsFirst, IsPointLiteral, IsChosen}
 use Rattle.qv_words.proofs.Leaves.{front, back}
 use Rattle.qv_words.proofs.Elements.{all-both_weaker}
-use Rattle.qv_game_laws.proofs.Terms.{OfVariable, IsOf}
-use Rattle.qv_game_laws.proofs.Candidates.{HasSort, IsCandidate, candidates-over}
+use Rattle.qv_game_laws.proofs.Terms.{OfVariable, IsOf, HasSort}
+use Rattle.qv_game_laws.proofs.Candidates.{IsCandidate, candidates-over}
 use Rattle.qv_game_laws.proofs.ChosenTerms.{IsLeafOf, over-itself, sort-at}
 use Rattle.qv_choose.specs.Conjuncts.{AreConjuncts, LeavesOut, ConjunctsDecideChoices}
 use Rattle.qv_choose.proofs.Giving.{same-candidates}

@@ -20,8 +20,7 @@ use Rattle.qv_words.specs.ChoiceLaws.{HasSortAt}
 use Rattle.qv_words.proofs.Leaves.{both}
 use Rattle.qv_words.proofs.Chosen.{terms-outside, terms-keep_truth}
 use Rattle.qv_words.proofs.Elements.{all-weaker, dropped-at, dropped-none, get-map, zip-map, zip-more}
-use Rattle.qv_game_laws.proofs.Terms.{IsOf, over-constants, over-leaves, over-free, each-leaf, term-from_over}
-use Rattle.qv_game_laws.proofs.Candidates.{HasSort}
+use Rattle.qv_game_laws.proofs.Terms.{IsOf, HasSort, over-constants, over-leaves, over-free, each-leaf, term-from_over}
 use Rattle.qv_store.specs.Nodes.{tree_at}
 use Rattle.qv_store.specs.Stores.{StandsAt, AreShared, Grows}
 use Rattle.qv_store.specs.Walks.{named}
@@ -41,8 +40,8 @@ use Rattle.qv_choose.proofs.PartLaws.{left-picked, zip-all, stay-listed}
 
 -- ---- regions
 
-pub words-of : (point : List Word) (t : Tree) → IsOf (AtPoint point) BoolSort t → HasWords [] point t
-words-of point t h = record {
+pub words-of : (point : List Word) (s : Sort) (t : Tree) → IsOf (AtPoint point) s t → HasWords [] point t
+words-of point s t h = record {
   constants = All-from_recursion (λ leaf. IsSomeAnd (slice_get [] leaf.0) (λ w. word_sort w ≡ leaf.1)) (constants_of t)
       (subst (AllByRecursion (λ leaf. IsSomeAnd (slice_get [] leaf.0) (λ w. word_sort w ≡ leaf.1))) (sym (over-constants (AtPoint point) t h.0)) tt);
   levels = All-from_recursion (λ leaf. IsSomeAnd (slice_get point leaf.0) (λ w. word_sort w ≡ leaf.1)) (free_levels t)
@@ -56,7 +55,7 @@ are-of point trees (id ∷ ids) h = (region-over point (tree_at trees id) h.0.fo
 pub regions-from : (point : List Word) (trees : List Tree) (ids : List ℕ) → AreShared trees → AllByRecursion (λ id. id < length trees) ids → AllByRecursion (IsOf (AtPoint point) BoolSort) (named trees ids) → AllByRecursion (IsRegion point trees) ids
 regions-from point trees [] shared low h = tt
 regions-from point trees (id ∷ ids) shared low h = (
-  record { shared = shared; below = low.0; formula = term-from_over (AtPoint point) BoolSort (tree_at trees id) h.0; words = words-of point (tree_at trees id) h.0 },
+  record { shared = shared; below = low.0; formula = term-from_over (AtPoint point) BoolSort (tree_at trees id) h.0; words = words-of point BoolSort (tree_at trees id) h.0 },
   regions-from point trees ids shared low.1 h.1,
 )
 
@@ -121,7 +120,7 @@ module _ (point : List Word) (first end : ℕ) (old : List Tree) (start : List �
   of-part = joined-region point trees choice.picked (zip-all (IsRegion point trees) parts numbers choice.picked so_far.regions choice.at)
 
   of-term : IsOf (AtPoint point) (place_sort point level) u
-  of-term = chosen-of point first end level part u low (term-from_over (AtPoint point) BoolSort part of-part) (words-of point part of-part) choice.choice.chosen
+  of-term = chosen-of point first end level part u low (term-from_over (AtPoint point) BoolSort part of-part) (words-of point BoolSort part of-part) choice.choice.chosen
 
   part-sort : HasSortAt level (place_sort point level) part
   part-sort =

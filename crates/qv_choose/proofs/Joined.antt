@@ -1,14 +1,10 @@
 -- Conjunctions have their formulas as conjuncts.
-use Rattle.std.proofs.Common.{◌≡◌, List, [], ◌∷◌, ◌++◌, refl, sym, subst, append_assoc, append-nil}
+use Rattle.std.proofs.Common.{◌≡◌, List, [], ◌∷◌, ◌++◌, sym, subst, append_assoc, append-nil}
 use Rattle.qv_words.specs.declared.op.Op.TheVariants.{And}
 use Rattle.qv_words.specs.Tree.{Tree}
 use Rattle.qv_words.specs.Prenex.{binary}
 use Rattle.qv_words.specs.Problem.{conjunction, conjunction_with}
 use Rattle.qv_choose.specs.Conjuncts.{AreConjuncts, of_true, alone, of_both}
-
-pub conjunction-push : (t : Tree) (us : List Tree) (u : Tree) → conjunction_with t (us ++ u ∷ []) ≡ binary And (conjunction_with t us) u
-conjunction-push t [] u = refl
-conjunction-push t (v ∷ us) u = conjunction-push (binary And t v) us u
 
 with-joined : (t : Tree) (ks ts : List Tree) → AreConjuncts t ks → AreConjuncts (conjunction_with t ts) (ks ++ ts)
 with-joined t ks [] h = subst (AreConjuncts t) (sym (append-nil ks)) h

@@ -2,12 +2,12 @@ pub mod TryLaws
 pub mod NextLaws
 pub mod PartLaws
 pub mod GoingLaws
+pub mod DefinedLaws
 pub mod PlaceLaws
 pub mod BlockLaws
 pub mod Giving
 pub mod Parts
 pub mod ByConjuncts
 pub mod Splits
-pub mod Stores
 pub mod Joined
 pub mod Lists

@@ -30,7 +30,7 @@ found-word [] l h = absurd (omega (arith, h))
 found-word (w ∷ ws) zero h = (w, refl)
 found-word (w ∷ ws) (suc k) h = found-word ws k (omega (arith, h))
 
-sort-there : (point : List Word) (x : ℕ) (w : Word) → slice_get point x ≡ Some w → place_sort point x ≡ word_sort w
+pub sort-there : (point : List Word) (x : ℕ) (w : Word) → slice_get point x ≡ Some w → place_sort point x ≡ word_sort w
 sort-there point x w e = ap (λ o. unwrap_or (option_map word_sort o) BoolSort) e
 
 pub one-sort : (point : List Word) (x : ℕ) (r : Sort) → AtPoint point x r → r ≡ place_sort point x

@@ -14,8 +14,8 @@ use Rattle.qv_words.specs.Prenex.{binary}
 use Rattle.qv_words.specs.Choice.{occurrences, occurrences_in_each, is_in, with_term, IsTrueAt}
 use Rattle.qv_words.proofs.Leaves.{back, both, front}
 use Rattle.qv_words.proofs.Conjunctions.{both-bool, both-true, parts-true}
-use Rattle.qv_game_laws.proofs.Terms.{OfVariable, IsOf, Puts, put-of}
-use Rattle.qv_game_laws.proofs.Candidates.{HasSort}
+use Rattle.qv_game_laws.proofs.Terms.{OfVariable, IsOf, HasSort}
+use Rattle.qv_game_laws.proofs.Definitions.{next-of, sort-both, of-both}
 use Rattle.qv_choose.specs.Conjuncts.{AreConjuncts, of_true, alone, of_both, LeavesOut, nothing, kept, left_out, ConjunctsTakeTerms}
 use Rattle.qv_choose.proofs.Giving.{never-in}
 
@@ -51,9 +51,6 @@ mutual
 pub stays : (x : ℕ) (u t : Tree) → is_in x t ≡ false → with_term x u t ≡ t
 stays x u t h = untouched x u t (never-in x t h)
 
-pub sort-both : (a b : Tree) → tree_sort a ≡ Some BoolSort → tree_sort b ≡ Some BoolSort → tree_sort (binary And a b) ≡ Some BoolSort
-sort-both a b s t = rw (s, t) refl
-
 abbrev pub IsTruth : Tree → Type 0
 IsTruth t = tree_sort t ≡ Some BoolSort
 
@@ -85,22 +82,9 @@ pub whole-of : (P : OfVariable) (region : Tree) (conjuncts : List Tree) → AreC
 whole-of P region conjuncts of_true g = (((omega arith, omega arith), omega arith), refl)
 whole-of P region conjuncts (alone t) g = g.0
 whole-of P region conjuncts (of_both a b ks ls h k) g =
-    let left = whole-of P a ks h (front (IsOf P BoolSort) ks ls g) in
-    let right = whole-of P b ls k (back (IsOf P BoolSort) ks ls g) in
-    let sort = sort-both a b left.1 right.1 in
-    (((left.0, (right.0, tt)), subst IsSome (sym sort) refl), sort)
+    of-both P a b (whole-of P a ks h (front (IsOf P BoolSort) ks ls g)) (whole-of P b ls k (back (IsOf P BoolSort) ks ls g))
 
 -- with a term of the place's sort put in they are so still
-puts-one : (P : OfVariable) (x : ℕ) (s : Sort) (u : Tree) → HasSort P x s → IsOf P s u → (l : ℕ) (q : Sort) → P l q → Puts P (with_level no_levels x u) l q
-puts-one P x s u own hu l q k = go (l == x) refl
-  where
-    go : (b : Bool) → (l == x) ≡ b → MatchOption (cond b (Some u) None) (P l q) (IsOf P q)
-    go false e = k
-    go true e = subst (λ (r : Sort). IsOf P r u) (sym (own q (subst (λ (j : ℕ). P j q) (eqb-true l x e) k))) hu
-
-pub next-of : (P : OfVariable) (x : ℕ) (s : Sort) (u : Tree) → HasSort P x s → IsOf P s u → (r : Sort) (t : Tree) → IsOf P r t → IsOf P r (with_term x u t)
-next-of P x s u own hu r t h = put-of P P (with_level no_levels x u) r t (puts-one P x s u own hu) h
-
 pub all-next : (P : OfVariable) (x : ℕ) (s : Sort) (u : Tree) → HasSort P x s → IsOf P s u → (ts : List Tree) → AllByRecursion (IsOf P BoolSort) ts → AllByRecursion (IsOf P BoolSort) (map (with_term x u) ts)
 all-next P x s u own hu [] h = tt
 all-next P x s u own hu (t ∷ ts) h = (next-of P x s u own hu BoolSort t h.0, all-next P x s u own hu ts h.1)

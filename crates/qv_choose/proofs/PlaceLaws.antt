@@ -46,7 +46,7 @@ module _ (point : List Word) (old : List Tree) (parts numbers picked : List ℕ)
     of-region = subst (IsOf (AtPoint point) BoolSort) (sym stands.tree) (joined-region point old picked those)
 
     pub region-of : IsRegion point mid region
-    region-of = record { shared = shared; below = stands.below; formula = term-from_over (AtPoint point) BoolSort (tree_at mid region) of-region; words = words-of point (tree_at mid region) of-region }
+    region-of = record { shared = shared; below = stands.below; formula = term-from_over (AtPoint point) BoolSort (tree_at mid region) of-region; words = words-of point BoolSort (tree_at mid region) of-region }
 
     module _ (p : Place) (now : List Tree) (term : ℕ) (low : p.level < length point) (mid_grows : Grows old mid) (now_grows : Grows mid now) (choice : IsChoice point p (tree_at mid region) now term) where
       grown : Grows old now

@@ -4,3 +4,4 @@ pub mod Conjuncts
 pub mod Parts
 pub mod Listing
 pub mod Splitting
+pub mod Trying

@@ -8,23 +8,26 @@ ghost use Rattle.qv_words.specs.Tree.{Tree};
 ghost use Rattle.qv_words.specs.Sorted.{free_levels};
 ghost use Rattle.qv_words.specs.Values.{HasWords};
 ghost use Rattle.qv_words.specs.Skolem.{IsTermOf};
-ghost use Rattle.qv_words.specs.Choice.{AreChosen, IsTrueAt};
+ghost use Rattle.qv_words.specs.Choice.{definitions, AreChosen, IsTrueAt};
 ghost use Rattle.qv_words.specs.Linked.{with_terms};
 ghost use Rattle.qv_store.specs.Nodes.{tree_at};
 ghost use Rattle.qv_store.specs.Stores.{AreShared, Grows};
 ghost use Rattle.qv_store.specs.Walks.{named};
-ghost use Rattle.qv_choose_paths.specs.Sights.{IsRegion};
-ghost use Rattle.qv_choose_candidates.specs.Chosen.{IsChoice, NothingPut};
+ghost use Rattle.qv_choose_paths.specs.Sights.{IsRegion, IsTrial};
+ghost use Rattle.qv_choose_candidates.specs.Chosen.{IsChoice, IsOtherChoice};
+ghost use Rattle.qv_choose_clauses.specs.Defining.{IsOnly, IsDefinition};
+ghost use Rattle.qv_choose_clauses.specs.Placing.{NothingPut};
 ghost use Rattle.qv_choose.specs.Conjuncts.{AreConjuncts, ArePicked};
 ghost use Rattle.qv_choose.specs.Listing.{numbers_in, AreListed};
 ghost use Rattle.qv_choose.specs.Parts.{ArePut, IsPartChoice};
 
-use crate::joining::conjoin;
 use crate::listing::listed;
 use crate::parting::{pick, put_each};
 use crate::splitting::conjuncts;
-use crate::trying::first_offer;
+use crate::trying::{first_offer, holds_with};
 use qv_choose_candidates::{Place, Sight, Trial, offers_of, put_literal, put_offer};
+use qv_choose_clauses::definition;
+use qv_conjoin::conjoin;
 use qv_store::{Id, NoMemory, Store};
 use qv_words::Word;
 use std::alloc::Global;
@@ -33,10 +36,11 @@ use std::alloc::Global;
 /// it: the region stays true there when they are put in. The terms are over places below `first`.
 ///
 /// For each place in order, the region has the terms put in that were chosen so far. The term is
-/// the first candidate with which the region stays true at the point; the candidates come of the
-/// region's equations and comparisons, by inverse terms. Where there is none, and where `first` is
-/// 0, so that no place stands before the block, it is the literal of the point's value. A candidate is tried in time proportional to the distinct terms of those of
-/// the region's conjuncts in which the place stands.
+/// the first candidate with which the region stays true at the point. The candidates are what the
+/// region's clauses define a truth value by, and come of its equations and comparisons by inverse
+/// terms. Where there is none, and where `first` is 0, so that no place stands before the block, it
+/// is the literal of the point's value. A candidate is tried in time proportional to the distinct
+/// terms of those of the region's conjuncts in which the place stands.
 /// Also where memory runs out the store keeps what was put.
 pub fn choose(
     alloc: Global,
@@ -139,7 +143,7 @@ fn choose_next(
 {
     let picked = pick(alloc, parts, numbers)?;
     let region = conjoin(alloc, store, &picked)?;
-    let term = choose_one(alloc, store, region, place, point)?;
+    let term = choose_one(alloc, store, region, place, point, put)?;
     put_each(store, parts, numbers, put, place.level, term)?;
     let _size = store.len();
     Ok(term)
@@ -171,10 +175,14 @@ fn choose_one(
     region: Id,
     place: Place,
     point: &mut [Word],
+    put: &mut [Option<Id>],
 ) -> Result<Id, NoMemory>
     requires region { IsRegion point.old store.old region }
     requires level { place.level < length point.old }
+    requires none { NothingPut put.old }
+    requires places { place.level < length put.old }
     ensures same { point.new ≡ point.old }
+    ensures put { put.new ≡ put.old }
     ensures choice { IfOk result (IsChoice point.old place (tree_at store.old region) store.new) }
     ensures grows { Grows store.old store.new }
     ensures shared { OnOk result (AreShared store.new) }
@@ -182,19 +190,50 @@ fn choose_one(
     if place.first == 0 {
         put_literal(store, point[place.level as usize])
     } else {
-        choose_term(alloc, store, region, place, point)
+        choose_term(alloc, store, region, place, point, put)
     }
 }
 
-// The first candidate with which the region stays true, or else the value.
+// The region's definition of the place, if it stays true with it, or else another candidate.
 fn choose_term(
     alloc: Global,
     store: &mut Store,
     region: Id,
     place: Place,
     point: &mut [Word],
+    put: &mut [Option<Id>],
 ) -> Result<Id, NoMemory>
     requires region { IsRegion point.old store.old region }
+    requires level { place.level < length point.old }
+    requires none { NothingPut put.old }
+    requires places { place.level < length put.old }
+    requires before { 0 < place.first }
+    ensures same { point.new ≡ point.old }
+    ensures put { put.new ≡ put.old }
+    ensures choice { IfOk result (IsChoice point.old place (tree_at store.old region) store.new) }
+    ensures grows { Grows store.old store.new }
+    ensures shared { OnOk result (AreShared store.new) }
+{
+    let sight = Sight::of(alloc, store, region, place)?;
+    let defined = definition(alloc, store, region, &sight, put)?;
+    let trial = Trial::of(store, region, sight, point)?;
+    choose_first(alloc, store, &trial, region, place, point, defined)
+}
+
+// The definition, if there is one with which the region stays true, or else another candidate.
+fn choose_first(
+    alloc: Global,
+    store: &mut Store,
+    trial: &Trial,
+    region: Id,
+    place: Place,
+    point: &mut [Word],
+    defined: Option<Id>,
+) -> Result<Id, NoMemory>
+    requires trial { IsTrial point.old store.old region trial.now }
+    requires place { trial.now.sight.place ≡ place }
+    requires defined { IsDefinition place store.old
+        (definitions place.first place.end (tree_at store.old region) place.level) defined }
     requires level { place.level < length point.old }
     requires before { 0 < place.first }
     ensures same { point.new ≡ point.old }
@@ -202,10 +241,60 @@ fn choose_term(
     ensures grows { Grows store.old store.new }
     ensures shared { OnOk result (AreShared store.new) }
 {
-    let sight = Sight::of(alloc, store, region, place)?;
-    let offers = offers_of(alloc, store, &sight)?;
-    let trial = Trial::of(store, region, sight, point)?;
-    match first_offer(alloc, store, &trial, region, point, &offers)? {
+    match defined {
+        Some(term) => choose_defined(alloc, store, trial, region, place, point, term),
+        None => choose_other(alloc, store, trial, region, place, point),
+    }
+}
+
+// The definition, if the region stays true with it, or else another candidate.
+fn choose_defined(
+    alloc: Global,
+    store: &mut Store,
+    trial: &Trial,
+    region: Id,
+    place: Place,
+    point: &mut [Word],
+    term: Id,
+) -> Result<Id, NoMemory>
+    requires trial { IsTrial point.old store.old region trial.now }
+    requires place { trial.now.sight.place ≡ place }
+    requires defined { IsOnly place store.old
+        (definitions place.first place.end (tree_at store.old region) place.level) term }
+    requires level { place.level < length point.old }
+    requires before { 0 < place.first }
+    ensures same { point.new ≡ point.old }
+    ensures choice { IfOk result (IsChoice point.old place (tree_at store.old region) store.new) }
+    ensures grows { Grows store.old store.new }
+    ensures shared { OnOk result (AreShared store.new) }
+{
+    let _count = store.len();
+    if holds_with(store, trial, region, point, term)? {
+        return Ok(term);
+    }
+    choose_other(alloc, store, trial, region, place, point)
+}
+
+// The first other candidate with which the region stays true, or else the value.
+fn choose_other(
+    alloc: Global,
+    store: &mut Store,
+    trial: &Trial,
+    region: Id,
+    place: Place,
+    point: &mut [Word],
+) -> Result<Id, NoMemory>
+    requires trial { IsTrial point.old store.old region trial.now }
+    requires place { trial.now.sight.place ≡ place }
+    requires level { place.level < length point.old }
+    ensures same { point.new ≡ point.old }
+    ensures choice { IfOk result (IsOtherChoice point.old place (tree_at store.old region)
+        store.new) }
+    ensures grows { Grows store.old store.new }
+    ensures shared { OnOk result (AreShared store.new) }
+{
+    let offers = offers_of(alloc, store, &trial.sight)?;
+    match first_offer(alloc, store, trial, region, point, &offers)? {
         Some(offer) => put_offer(alloc, store, &trial.sight, offer),
         None => put_literal(store, point[place.level as usize]),
     }

@@ -3,7 +3,6 @@
 #![tactic(auto)]
 
 mod choosing;
-mod joining;
 pub mod laws;
 mod listing;
 mod parting;

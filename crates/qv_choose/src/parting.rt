@@ -8,10 +8,11 @@ ghost use Rattle.qv_words.specs.Choice.{with_term};
 ghost use Rattle.qv_store.specs.Nodes.{tree_at};
 ghost use Rattle.qv_store.specs.Stores.{Grows, StandsAt};
 ghost use Rattle.qv_store.specs.Walks.{named};
-ghost use Rattle.qv_choose_candidates.specs.Chosen.{NothingPut};
+ghost use Rattle.qv_choose_clauses.specs.Placing.{NothingPut};
 ghost use Rattle.qv_choose.specs.Conjuncts.{ArePicked};
 ghost use Rattle.qv_choose.specs.Parts.{AreAt, Takes};
 
+use qv_choose_clauses::put_one;
 use qv_store::{Id, NoMemory, Store};
 use std::alloc::Global;
 
@@ -54,31 +55,4 @@ pub(crate) fn put_each(
         parts[*number] = put_one(store, parts[*number], put, level, term)?;
     }
     Ok(())
-}
-
-// The region with the term put in for the place.
-fn put_one(
-    store: &mut Store,
-    region: Id,
-    put: &mut [Option<Id>],
-    level: u64,
-    term: Id,
-) -> Result<Id, NoMemory>
-    requires region { region < length store.old }
-    requires free { IsQuantifierFree (tree_at store.old region) }
-    requires none { NothingPut put.old }
-    requires level { level < length put.old }
-    requires term { term < length store.old }
-    requires sorts { HasTheirSorts (with_level no_levels level (tree_at store.old term))
-        (tree_at store.old region) }
-    ensures same { put.new ≡ put.old }
-    ensures id { IfOk result (λ id. StandsAt store.new id
-        (with_term level (tree_at store.old term) (tree_at store.old region))) }
-    ensures grows { Grows store.old store.new }
-{
-    let level = level as usize;
-    put[level] = Some(term);
-    let made = store.put_in(region, put);
-    put[level] = None;
-    made
 }

@@ -3,8 +3,10 @@
 ghost use Rattle.std.specs.Prelude.{◌≡◌, [], All, IfOk, Some};
 ghost use Rattle.qv_words.specs.Word.{word_sort};
 ghost use Rattle.qv_store.specs.Evaluating.{IsWordOf};
+ghost use Rattle.qv_store.specs.Nodes.{tree_at};
 ghost use Rattle.qv_choose_paths.specs.Sights.{IsTrial};
 ghost use Rattle.qv_choose_candidates.specs.Offers.{offered, IsAim, IsReady, Decides, HasPlaceSort, Stays};
+ghost use Rattle.qv_choose.specs.Trying.{IsTermAt};
 ghost use Rattle.qv_choose_candidates.specs.Offers.{Finds};
 
 use qv_choose_candidates::{Offer, Target, Trial, row_word, target_row, word_down};
@@ -107,4 +109,22 @@ fn stays_true(
     let words = words?;
     let held = *trial.sight.walk.result_of(&words, region);
     Ok(held.value() == 1)
+}
+
+// Whether the region is true at the point with a term of the place's sort over the point's places.
+pub(crate) fn holds_with(
+    store: &Store,
+    trial: &Trial,
+    region: Id,
+    point: &mut [Word],
+    term: Id,
+) -> Result<bool, NoMemory>
+    requires trial { IsTrial point.old store.now region trial.now }
+    requires term { IsTermAt point.old store.now trial.now.sight.place term }
+    ensures same { point.new ≡ point.old }
+    ensures held { IfOk result (Decides (Stays point.old store.now region trial.now.sight.place)
+        (λ u. u ≡ tree_at store.now term)) }
+{
+    let word = store.eval_at(term, &[], point)?;
+    stays_true(store, trial, region, point, word)
 }

@@ -4,4 +4,5 @@ pub mod TrialUses
 pub mod BetweenLaws
 pub mod PutLaws
 pub mod OfferLaws
+pub mod SightLaws
 pub mod ChoiceUses

@@ -1,4 +1,4 @@
--- What is put in for a place, and the term of a candidate.
+-- The term of a candidate.
 use Rattle.std.proofs.Common.{◌≡◌, ℕ, zero, suc, ◌<◌, ◌==◌, arith, Bool, true, false, cond, Option, Some, None, List, [], ◌∷◌, length, set, refl, sym, ap, ◌∙◌, subst}
 use Rattle.std.specs.Prelude.{IfSome, option_map}
 use Rattle.std.proofs.lemmas.Bool.{eqb-true, eqb-false}
@@ -27,45 +27,6 @@ use Rattle.qv_words.proofs.Replaced.{same-put}
 use Rattle.qv_choose_paths.proofs.SceneLaws.{earlier-below, lawful-at}
 use Rattle.qv_choose_paths.proofs.StepLaws.{sort-as}
 use Rattle.qv_choose_candidates.proofs.SideLaws.{target-put, target-sorted}
-
--- a list of terms with one set
-put-there : (xs : List (Option ℕ)) (x : ℕ) (v : Option ℕ) → x < length xs → term_of_level (set xs x v) x ≡ v
-put-there [] x v h = absurd (omega (arith, h))
-put-there (y ∷ ys) zero v h = refl
-put-there (y ∷ ys) (suc x) v h = put-there ys x v (omega (arith, h))
-
-put-others : (xs : List (Option ℕ)) (x l : ℕ) (v : Option ℕ) → (l ≡ x → ⊥) → term_of_level (set xs x v) l ≡ term_of_level xs l
-put-others [] x l v h = refl
-put-others (y ∷ ys) zero zero v h = absurd (h refl)
-put-others (y ∷ ys) zero (suc l) v h = refl
-put-others (y ∷ ys) (suc x) zero v h = refl
-put-others (y ∷ ys) (suc x) (suc l) v h = put-others ys x l v (λ e. h (ap suc e))
-
-pub put-back : (xs : List (Option ℕ)) (x : ℕ) (v : Option ℕ) → ((l : ℕ) → term_of_level xs l ≡ None) → set (set xs x v) x None ≡ xs
-put-back [] x v h = refl
-put-back (y ∷ ys) zero v h = ap (λ o. o ∷ ys) (sym (h 0))
-put-back (y ∷ ys) (suc x) v h = ap (λ os. y ∷ os) (put-back ys x v (λ l. h (suc l)))
-
-pub level-put : (trees : List Tree) (put : List (Option ℕ)) (x n : ℕ) → ((l : ℕ) → term_of_level put l ≡ None) → x < length put → (l : ℕ) → put_by_level trees (set put x (Some n)) l ≡ with_level no_levels x (tree_at trees n) l
-level-put trees put x n none low l = go (l == x) refl
-  where
-    go : (b : Bool) → (l == x) ≡ b → option_map (tree_at trees) (term_of_level (set put x (Some n)) l) ≡ cond b (Some (tree_at trees n)) None
-    go true e = ap (λ k. option_map (tree_at trees) (term_of_level (set put x (Some n)) k)) (eqb-true l x e) ∙ ap (option_map (tree_at trees)) (put-there put x (Some n) low)
-    go false e = ap (option_map (tree_at trees)) (put-others put x l (Some n) (eqb-false l x e) ∙ none l)
-
-pub level-sorts : (trees : List Tree) (put : List (Option ℕ)) (x n : ℕ) (region : Tree) → ((l : ℕ) → term_of_level put l ≡ None) → x < length put → HasTheirSorts (with_level no_levels x (tree_at trees n)) region → HasTheirSorts (put_by_level trees (set put x (Some n))) region
-level-sorts trees put x n region none low h =
-    All-from_recursion (λ leaf. IfSome (put_by_level trees (set put x (Some n)) leaf.0) (λ t. tree_sort t ≡ Some leaf.1)) (free_levels region)
-    (all-weaker (λ leaf. IfSome (with_level no_levels x (tree_at trees n) leaf.0) (λ t. tree_sort t ≡ Some leaf.1)) (λ leaf. IfSome (put_by_level trees (set put x (Some n)) leaf.0) (λ t. tree_sort t ≡ Some leaf.1)) (free_levels region)
-    (λ leaf k. subst (λ (o : Option Tree). IfSome o (λ t. tree_sort t ≡ Some leaf.1)) (sym (level-put trees put x n none low leaf.0)) k)
-    (recursion_from_All (λ leaf. IfSome (with_level no_levels x (tree_at trees n) leaf.0) (λ t. tree_sort t ≡ Some leaf.1)) (free_levels region) h))
-
-pub level-stands : (trees new : List Tree) (put : List (Option ℕ)) (x n made : ℕ) (region : Tree) → ((l : ℕ) → term_of_level put l ≡ None) → x < length put → StandsAt new made (replaced (put_by_level trees (set put x (Some n))) region)
-    → StandsAt new made (with_term x (tree_at trees n) region)
-level-stands trees new put x n made region none low h = record {
-  below = h.below;
-  tree = h.tree ∙ same-put (put_by_level trees (set put x (Some n))) (with_level no_levels x (tree_at trees n)) (level-put trees put x n none low) region;
-}
 
 -- a target's row, by the sides' sort
 pub aim-row : (trees : List Tree) (s : Sight) (side other : ℕ) (k : Target) (sort : Sort) (row : Tree) → IsScene trees s → IsAim s.place trees s.walk side other → tree_sort (tree_at trees other) ≡ Some sort → row ≡ target_tree k sort (Variable 0 sort) → IsSorted row

@@ -38,10 +38,6 @@ pub decides-other : {E : Type 0} (r : Result Bool E) (P Q R : Tree → Type 0) �
 decides-other (Ok held) P Q R h d = λ u k. d u (h u k)
 decides-other (Err e) P Q R h d = tt
 
-pub if-other : {A E : Type 0} (r : Result A E) (P Q : A → Type 0) → ((a : A) → P a → Q a) → IfOk r P → IfOk r Q
-if-other (Ok a) P Q h k = h a k
-if-other (Err e) P Q h k = tt
-
 -- truth values
 pub truth-word : (point : List Word) (b : Bool) (w : Word) → word_sort w ≡ BoolSort → word_value w ≡ cond b 1 0 → IsWordOf [] point (truth_literal b) w
 truth-word point b w sort value = record { sort = ap (λ s. Some s) (sym sort); value = value }

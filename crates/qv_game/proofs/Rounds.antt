@@ -1,5 +1,6 @@
 -- Play turn by turn: how it begins, why it ends, and what it has charged.
-use Rattle.std.proofs.Common.{◌≡◌, ◌⊎◌, ℕ, Bool, true, false, ◌==◌, Result, Ok, Err, ◌+◌, ◌-◌, ◌*◌, ◌≤◌, ◌<◌, Option, Some, None, List, [], ◌∷◌, length, slice_get, inl, inr, refl, sym, ap, ◌∙◌, subst, arith}
+use Rattle.std.proofs.Common.{◌≡◌, ◌⊎◌, ℕ, Bool, true, false, ◌==◌, Result, Ok, Err, ◌+◌, ◌-◌, ◌*◌, ◌≤◌, ◌<◌, Option, Some, None, List, [], ◌∷◌, length, map, take, slice_get, inl, inr, refl, sym, ap, ◌∙◌, subst, arith}
+use Rattle.std.proofs.lemmas.List.{length-map}
 use Rattle.std.proofs.Math.Nat.{mul-le-mul_right}
 use Rattle.std.specs.Prelude.{IfOk, IsSomeAnd, OnErr}
 use Rattle.std.proofs.lemmas.Bool.{eq-eqb, eqb-true}
@@ -29,16 +30,21 @@ use Rattle.qv_game_turns.specs.declared.turns.Spot.{Spot}
 use Rattle.qv_game_state.specs.Charges.{IsCharged, Tally, instance_limit}
 use Rattle.qv_game_state.specs.Counts.{SameButCounts, without_counts}
 use Rattle.qv_game_state.specs.Playing.{IsGame, IsPlaying}
-use Rattle.qv_game_state.specs.Spots.{IsSpot}
+use Rattle.qv_game_state.specs.Spots.{IsOutside, IsSpot}
+use Rattle.qv_game_state.specs.Spans.{span_of}
+use Rattle.qv_game_state.specs.declared.spans.Span.{Span as Kept}
+use Rattle.qv_game_play_laws.specs.PlayLaws.{sorts_below}
+use Rattle.qv_words.specs.Word.{sorts_of, values_of}
 use Rattle.qv_game_state.specs.Starting.{HasCharged, IsUncharged}
 use Rattle.qv_game_turns.specs.Turns.{MayTurn}
 use Rattle.qv_game.specs.WholeGames.{MayPlay}
 use Rattle.qv_game_state.specs.Faults.{IsSpentWhere}
 use Rattle.qv_game_state.proofs.Begun.{charged-first}
-use Rattle.qv_game_state.proofs.Blocks.{some-block}
+use Rattle.qv_game_state.proofs.Blocks.{some-block, spans-count}
+use Rattle.qv_game_state.proofs.Levels.{front-sorts}
 use Rattle.qv_game_state.proofs.Keeping.{posed-in_stays, posed-stays}
 use Rattle.qv_game_state.proofs.Opening.{places-none}
-use Rattle.qv_game_state.proofs.Asking.{if-ok}
+use Rattle.qv_game_state.proofs.Asking.{if-ok, level-span}
 
 -- the point of level 1, before any entry
 first-spot : (p : Problem) → 1 ≤ block_count p → IsSpot p [] 1 []
@@ -49,18 +55,41 @@ first-spot p some = record {
   outside = λ k from to winner. All-from_recursion (λ (f : Entry). IsTrueAt _ f.region → ⊥) [] tt;
 }
 
-pub first-turn : (trees : List Tree) (posed : Posed) (p : Problem) (limit : ℕ) (g : Game) (spot : Spot) (m : Metering) → MayPlay trees posed p limit g m → spot.level ≡ 1 → spot.point.items ≡ [] → MayTurn trees posed p limit g spot m
-first-turn trees posed p limit g spot m h level point = record {
+-- play at level 1, before any entry
+pub first-playing : (trees : List Tree) (posed : Posed) (p : Problem) (limit : ℕ) (g : Game) (m : Metering) → MayPlay trees posed p limit g m → IsPlaying trees p limit g 1 [] m
+first-playing trees posed p limit g m h = record {
+  game = h.game;
+  undecided = subst (λ (rows : List Row). IsUndecided (entries_in trees rows)) (sym h.none) (All-from_recursion (λ (e : Entry). e.level ≡ 1 → ⊥) [] tt);
+  settled = subst (λ (rows : List Row). IsSettled p (entries_in trees rows)) (sym h.none) (settled-none p);
+  spot = subst (λ (rows : List Row). IsSpot p (entries_in trees rows) 1 []) (sym h.none) (first-spot p (some-block p.prefix h.some));
+}
+
+-- play at the last level, before any entry, at the front of values of all places
+pub sought-playing : (trees : List Tree) (p : Problem) (limit : ℕ) (g : Game) (levels : ℕ) (values : List Word) (s : Kept) (m : Metering) → IsPlaying trees p limit g 1 [] m → g.entries ≡ [] → 1 ≤ levels → levels ≡ length g.spans.items → slice_get g.spans.items (levels - 1) ≡ Some s → sorts_of values ≡ sorts_below p (block_count p + 1) → IsPlaying trees p limit g levels (take s.first values) m
+sought-playing trees p limit g levels values s m h none low many at sorts =
+    let f = level-span trees p limit g levels m s h.game low at in
+    let count : length (map span_of g.spans.items) ≡ block_count p = ap length h.game.spans ∙ spans-count 0 (blocks_of p.prefix) in
+    let same = length-map g.spans.items span_of in
+    let high : levels ≡ block_count p = omega (arith, count, same, many) in
+    let all : sorts_of values ≡ sorts_below p (levels + 1) = sorts ∙ ap (λ (n : ℕ). sorts_below p (n + 1)) (sym high) in
+    record {
+      game = h.game;
+      undecided = h.undecided;
+      settled = h.settled;
+      spot = record {
+        low = low;
+        high = omega (arith, high);
+        sorts = ap (λ (n : ℕ). sorts_of (take n values)) f.1.first ∙ front-sorts p levels (levels + 1) values low (omega arith) all;
+        outside = subst (λ (rows : List Row). (k : ℕ) → 1 ≤ k → k ≤ levels → IsOutside p (entries_in trees rows) (values_of (take s.first values)) k) (sym none)
+            (λ k from to winner. All-from_recursion (λ (f : Entry). IsTrueAt _ f.region → ⊥) [] tt);
+      };
+    }
+
+pub first-turn : (trees : List Tree) (posed : Posed) (p : Problem) (limit : ℕ) (before g : Game) (spot : Spot) (m after : Metering) → MayPlay trees posed p limit before m → IsPlaying trees p limit g spot.level spot.point.items after → MayTurn trees posed p limit g spot after
+first-turn trees posed p limit before g spot m after h playing = record {
   posed_in = h.posed_in;
   is = h.is;
-  playing = record {
-    game = h.game;
-    undecided = subst (λ (rows : List Row). IsUndecided (entries_in trees rows)) (sym h.none) (All-from_recursion (λ (e : Entry). e.level ≡ 1 → ⊥) [] tt);
-    settled = subst (λ (rows : List Row). IsSettled p (entries_in trees rows)) (sym h.none) (settled-none p);
-    spot = subst (λ (rows : List Row). IsSpot p (entries_in trees rows) spot.level spot.point.items) (sym h.none)
-        (subst (λ (l : ℕ). IsSpot p [] l spot.point.items) (sym level)
-        (subst (λ (ws : List Word). IsSpot p [] 1 ws) (sym point) (first-spot p (some-block p.prefix h.some))));
-  };
+  playing = playing;
 }
 
 pub next-turn : (old new : List Tree) (posed : Posed) (p : Problem) (limit : ℕ) (before g : Game) (from spot : Spot) (m after : Metering) → MayTurn old posed p limit before from m → Grows old new → IsPlaying new p limit g spot.level spot.point.items after → MayTurn new posed p limit g spot after

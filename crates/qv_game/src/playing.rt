@@ -11,6 +11,7 @@ ghost use Rattle.qv_meter.specs.Played.{IsPlayed};
 ghost use Rattle.qv_game_state.specs.declared.query.Query.{Query as QuerySpec};
 ghost use Rattle.qv_game_state.specs.Counts.{SameButCounts};
 ghost use Rattle.qv_game_state.specs.Faults.{IsSpentWhere};
+ghost use Rattle.qv_game_state.specs.Playing.{IsPlaying};
 ghost use Rattle.qv_game_state.specs.Starting.{HasCharged, IsUncharged};
 ghost use Rattle.qv_game.specs.Played.{steps_in, HasKept};
 ghost use Rattle.qv_game.specs.Queries.{has_only, only_lane};
@@ -28,6 +29,9 @@ use qv_meter::Meter;
 use qv_store::{Problem, Quant, Store};
 use qv_words::Word;
 use std::alloc::{AllocError, Global};
+
+// Of so many blocks at least.
+const FEWEST: usize = 3;
 
 /// The winner of a game, and the entries by which it wins.
 #[derive(Drop)]
@@ -231,10 +235,7 @@ fn take_turns(
     ensures spent { IsSpentWhere result meter.new }
     ensures grows { Grows store.old store.new }
 {
-    let mut spot = Spot {
-        level: 1,
-        point: Vec::new(alloc),
-    };
+    let mut spot = first_spot(game, alloc, store, meter)?;
     'turns: loop {
         let turn = next_turn(game, alloc, store, problem, meter, spot)?;
         // What every meter keeps.
@@ -244,6 +245,37 @@ fn take_turns(
             Turn::On(next) => spot = next,
         }
     }
+}
+
+// Where play begins: in a game of several blocks, at values of all places by which the owner of the
+// last block wins, if there are any, since its entry then says much of what its places are for.
+fn first_spot(
+    game: &mut Game,
+    alloc: Global,
+    store: &Store,
+    meter: &mut Meter,
+) -> Result<Spot, PlayFault>
+    requires { (p : PlainProblem) × (limit : ℕ)
+        × IsPlaying store.now p limit game.old 1 [] meter.old }
+    ensures playing { IfOk result (λ spot. (p : PlainProblem) (limit : ℕ) →
+        IsPlaying store.now p limit game.old 1 [] meter.old → game.old.entries ≡ [] →
+        IsPlaying store.now p limit game.new spot.level spot.point.items meter.new) }
+    ensures counts { SameButCounts meter.old meter.new }
+    ensures spent { IsSpentWhere result meter.new }
+{
+    let levels = game.spans.len();
+    if levels >= FEWEST {
+        if let Some(mut point) = game.seek(alloc, store, meter)? {
+            let first = game.spans[levels - 1].first;
+            point.truncate(first as usize);
+            let level = levels as u64;
+            return Ok(Spot { level, point });
+        }
+    }
+    Ok(Spot {
+        level: 1,
+        point: Vec::new(alloc),
+    })
 }
 
 // The game without places.

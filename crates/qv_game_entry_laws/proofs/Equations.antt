@@ -45,7 +45,7 @@ equal-gives e t s v n sort m holds =
     eqb-true v n is
 
 -- the conjunction of two formulas
-and-of : (P : OfVariable) (a b : Tree) → IsOf P BoolSort a → IsOf P BoolSort b → IsOf P BoolSort (binary And a b)
+pub and-of : (P : OfVariable) (a b : Tree) → IsOf P BoolSort a → IsOf P BoolSort b → IsOf P BoolSort (binary And a b)
 and-of P a b ha hb = (((ha.0, (hb.0, tt)), rw (ha.1, hb.1) refl), rw (ha.1, hb.1) refl)
 
 and-means : (e : ℕ → Option ℕ) (a b : Tree) (v w : ℕ) → tree_sort a ≡ Some BoolSort → tree_sort b ≡ Some BoolSort → Means [] e a v → Means [] e b w → Means [] e (binary And a b) (truth ((v == 1) && (w == 1)))

@@ -76,7 +76,7 @@ formula-of P f g (inr is) h =
     let sort = over-sort P f whole.0.0.0 in
     (whole.0.0.0, subst (λ (s : Sort). tree_sort f ≡ Some s) (bool-below f sort.0 sort.1 whole.1) sort.1)
 
-formulas-of : (P : OfVariable) (fs gs : List Tree) → AllZip Deny fs gs → AllByRecursion (IsOf P BoolSort) gs → AllByRecursion (IsOf P BoolSort) fs
+pub formulas-of : (P : OfVariable) (fs gs : List Tree) → AllZip Deny fs gs → AllByRecursion (IsOf P BoolSort) gs → AllByRecursion (IsOf P BoolSort) fs
 formulas-of P [] gs h each = tt
 formulas-of P (f ∷ fs) [] h each = absurd h
 formulas-of P (f ∷ fs) (g ∷ gs) h each = (formula-of P f g h.0 each.0, formulas-of P fs gs h.1 each.1)

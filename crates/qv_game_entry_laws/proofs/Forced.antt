@@ -34,7 +34,7 @@ bool-below f BoolSort h n = refl
 bool-below f (Bits w) h n = let none : None ≡ Some BoolSort = rw h at n in absurd (none-some BoolSort none)
 
 -- the negation of what is false
-negation-true : (e : ℕ → Option ℕ) (t : Tree) → tree_sort t ≡ Some BoolSort → Means [] e t 0 → Means [] e (negation t) 1
+pub negation-true : (e : ℕ → Option ℕ) (t : Tree) → tree_sort t ≡ Some BoolSort → Means [] e t 0 → Means [] e (negation t) 1
 negation-true e t s m = (BoolSort ∷ [], 0 ∷ [], rw s refl, (0, [], m, refl, refl), refl)
 
 -- what a negation that is false negates
@@ -60,7 +60,7 @@ denied-true P e values f g (inr is) h m =
     subst (Means [] e f) one value.2
 
 -- where not all formulas are true, some region that one of them denies is
-found : (P : OfVariable) (e : ℕ → Option ℕ) → ((l : ℕ) (s : Sort) → P l s → IsSomeAnd (e l) (λ v. IsValueOf v s)) → (formulas regions : List Tree) → AllZip Deny formulas regions → AllByRecursion (IsOf P BoolSort) regions → (AllByRecursion (λ t. Means [] e t 1) formulas → ⊥) → (k : ℕ) × IsSomeAnd (slice_get regions k) (λ t. Means [] e t 1)
+pub found : (P : OfVariable) (e : ℕ → Option ℕ) → ((l : ℕ) (s : Sort) → P l s → IsSomeAnd (e l) (λ v. IsValueOf v s)) → (formulas regions : List Tree) → AllZip Deny formulas regions → AllByRecursion (IsOf P BoolSort) regions → (AllByRecursion (λ t. Means [] e t 1) formulas → ⊥) → (k : ℕ) × IsSomeAnd (slice_get regions k) (λ t. Means [] e t 1)
 found P e values [] [] denied each none = absurd (none tt)
 found P e values [] (g ∷ gs) denied each none = absurd denied
 found P e values (f ∷ fs) [] denied each none = absurd denied
@@ -89,7 +89,7 @@ regions-of p earlier e j hp linked links level =
     (leads-to p earlier (length earlier) e k t (subst (λ (es : List Entry). AreLinks p es e) (sym all) links)
     (subst (λ (es : List Entry). slice_get (linked_regions p es e) k ≡ Some t) (sym all) at)))
 
-other-owner : (e : Entry) (block : Block) → (e.winner ≡ block.owner → ⊥) → same_quantifier e.winner block.owner ≡ false
+pub other-owner : (e : Entry) (block : Block) → (e.winner ≡ block.owner → ⊥) → same_quantifier e.winner block.owner ≡ false
 other-owner e block other = elim (cases_Bool (same_quantifier e.winner block.owner)) [
   | inl y ↦ absurd (other (same-quantifier e.winner block.owner y))
   | inr n ↦ n
@@ -105,16 +105,13 @@ region-says p earlier e block runs formulas j hp w level =
     (recursion_from_All (IsRun p e (linked_regions p earlier e)) runs w.each) in
     subst (Says p (before p j) e.point runs) (sym w.region) (conjunction-says p (before p j) e.point runs each)
 
-forced : (p : Problem) (earlier : List Entry) (e : Entry) (block : Block) (runs : List Run) (formulas : List Tree) (j : ℕ) → IsProblem p → IsLinked p earlier → IsForcedBy p earlier e block runs formulas → e.level ≡ suc j → slice_get (blocks_of p.prefix) j ≡ Some block → IsForced p e block (linked_regions p earlier e)
+forced : (p : Problem) (earlier : List Entry) (e : Entry) (block : Block) (runs : List Run) (formulas : List Tree) (j : ℕ) → IsProblem p → IsLinked p earlier → IsForcedBy p earlier e block runs formulas → e.level ≡ suc j → slice_get (blocks_of p.prefix) j ≡ Some block → IsForced p earlier e block (linked_regions p earlier e)
 forced p earlier e block runs formulas j hp linked w level at =
     let first : places_below (blocks_of p.prefix) e.level ≡ before p j = below-is (blocks_of p.prefix) e.level j level in
     let says = region-says p earlier e block runs formulas j hp w level in
     record {
       no_terms = w.no_terms;
-      runs = runs;
-      each = w.each;
-      apart = w.apart;
-      region = w.region;
+      form = inl (record { runs = runs; each = w.each; apart = w.apart; region = w.region });
       closed = λ point values typed each holds.
           let here : IsPoint p.prefix (before p j) point = subst (λ (n : ℕ). IsPoint p.prefix n point) first typed in
           let agree = All-from_recursion (AgreeIn e.point point) runs (says.gives point here holds) in
@@ -139,6 +136,6 @@ forced-may-come p earlier e block runs formulas hp linked w =
         holds = says.takes e.point typed (all-of (AgreeIn e.point e.point) runs (λ r. refl));
       };
       block = to-some (block_numbered (blocks_of p.prefix) e.level) (MeetsBlock p earlier e) block w.at_level
-          (subst (λ (b : Bool). MatchBool b (LinksToOne (linked_regions p earlier e) (IsOwned p e block)) (IsForced p e block (linked_regions p earlier e))) (sym (other-owner e block w.owner))
+          (subst (λ (b : Bool). MatchBool b (LinksToOne (linked_regions p earlier e) (IsOwned p e block)) (IsForced p earlier e block (linked_regions p earlier e))) (sym (other-owner e block w.owner))
           (forced p earlier e block runs formulas index.0 hp linked w index.1 index.2));
     }

@@ -2,6 +2,7 @@ pub mod Taken
 pub mod Equations
 pub mod Forced
 pub mod Failed
+pub mod Complement
 pub mod Linking
 mod EntriesExample
 pub mod Literals

@@ -94,7 +94,7 @@ owned p earlier e block later values w = record {
 
 meets : (p : Problem) (earlier : List Entry) (e : Entry) (block : Block) (later : Tree) (values : List ℕ) → IsTaken p earlier e block later values → MeetsBlock p earlier e block
 meets p earlier e block later values w =
-    subst (λ (b : Bool). MatchBool b (LinksToOne (linked_regions p earlier e) (IsOwned p e block)) (IsForced p e block (linked_regions p earlier e))) (sym (itself e.winner block.owner w.owner))
+    subst (λ (b : Bool). MatchBool b (LinksToOne (linked_regions p earlier e) (IsOwned p e block)) (IsForced p earlier e block (linked_regions p earlier e))) (sym (itself e.winner block.owner w.owner))
     (subst (λ (ts : List Tree). LinksToOne ts (IsOwned p e block)) (sym w.linked) (owned p earlier e block later values w))
 
 pub taken-may_come : TakenMayCome

@@ -11,7 +11,7 @@ use Rattle.qv_words.specs.Clauses.{nodes, bits_of, cnf}
 use Rattle.qv_words.specs.Passes.{IsSimple}
 use Rattle.qv_words.specs.PassLaws.{StandsFor}
 use Rattle.qv_words.specs.Choice.{AreChosen, IsTrueAt}
-use Rattle.qv_words.specs.Linked.{Block, Entry, Run, AreLinks, AreValues, IsEntry, IsLinked, IsRun, AreApart, blocks_of, block_numbered, equation_of, last_region, linked_regions, places_below, with_terms}
+use Rattle.qv_words.specs.Linked.{Block, Entry, Run, AreLinks, AreValues, IsComplement, IsEntry, IsLinked, IsRun, AreApart, blocks_of, block_numbered, entries_named, equation_of, last_region, linked_regions, places_below, with_terms}
 use Rattle.qv_words.specs.GameLaws.{IsProblem, IsPointOf}
 use Rattle.qv_circuits_laws.specs.ClauseLaws.{blasted}
 
@@ -91,6 +91,39 @@ abbrev pub ForcedMayCome : Type 0
 ForcedMayCome =
     (p : Problem) (earlier : List Entry) (e : Entry) (block : Block) (runs : List Run) (formulas : List Tree) → IsProblem p → IsLinked p earlier →
     IsForcedBy p earlier e block runs formulas → IsEntry p earlier e
+
+-- no values of the block make all these formulas true, at a point of the entry's region
+abbrev pub RegionLeavesNone : Problem → Entry → Block → List Tree → Type 0
+RegionLeavesNone p e block formulas =
+    (point values : List ℕ) → IsPointOf p e.level point → AreValues values block.sorts → IsTrueAt point e.region →
+    All (IsTrueAt (point ++ values)) formulas → ⊥
+
+-- the other player owns the block: it was asked for values outside all linked regions, and outside
+-- its own regions of this level, where the point is, there are none
+pub record IsComplementBy (p : Problem) (earlier : List Entry) (e : Entry) (block : Block) (formulas : List Tree) : Type 0 where
+  pub at_level : block_numbered (blocks_of p.prefix) e.level ≡ Some block
+  pub owner : e.winner ≡ block.owner → ⊥
+  pub links : AreLinks p earlier e
+  pub denied : AllZip Deny formulas (linked_regions p earlier e)
+  pub point : IsPointOf p e.level e.point
+  pub no_terms : e.terms ≡ []
+  pub complement : IsComplement earlier e
+  pub outside : All (λ f. IsTrueAt e.point f.region → ⊥) (entries_named earlier complement.numbers)
+  pub none : RegionLeavesNone p e block formulas
+
+-- such an entry may come
+abbrev pub ComplementMayCome : Type 0
+ComplementMayCome =
+    (p : Problem) (earlier : List Entry) (e : Entry) (block : Block) (formulas : List Tree) → IsProblem p → IsLinked p earlier →
+    IsComplementBy p earlier e block formulas → IsEntry p earlier e
+
+-- a region whose clauses, with those of the formulas behind them, have no model leaves none
+abbrev pub NoModelLeavesNone : Type 0
+NoModelLeavesNone =
+    (p : Problem) (earlier : List Entry) (e : Entry) (block : Block) (formulas : List Tree) → IsProblem p → IsLinked p earlier →
+    block_numbered (blocks_of p.prefix) e.level ≡ Some block → AreLinks p earlier e → AllZip Deny formulas (linked_regions p earlier e) →
+    IsComplement earlier e → ((v : ℕ → Bool) → clauses_value v (cnf (e.region ∷ formulas)) ≡ true → ⊥) →
+    RegionLeavesNone p e block formulas
 
 -- a literal says that a bit of a place is as it is at the point, and one of the runs has this bit
 pub record IsAssumed (formulas : List Tree) (point : List ℕ) (runs : List Run) (l : Lit) : Type 0 where

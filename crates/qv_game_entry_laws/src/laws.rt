@@ -3,6 +3,7 @@
 
 ghost use Rattle.qv_game_entry_laws.specs.BuildingLaws.{LastRegionIsLinked, OneRegionIsLinked};
 ghost use Rattle.qv_game_entry_laws.specs.BuildingLaws.{TakenMayCome, ForcedMayCome, FailedLeaveNone};
+ghost use Rattle.qv_game_entry_laws.specs.BuildingLaws.{ComplementMayCome, NoModelLeavesNone};
 ghost use Rattle.qv_game_entry_laws.specs.QueryLaws.{ClausesHaveLiterals, PlacesWithBitsOccur};
 ghost use Rattle.qv_game_entry_laws.specs.QueryLaws.{FixedBitsGiveTheirValue, ModelsMakeTrue};
 ghost use Rattle.qv_game_entry_laws.specs.PointLaws.{ModelsLeadOn, NamedRunsAssumeAll};
@@ -31,6 +32,17 @@ pub fn forced_may_come()
 /// true.
 pub fn failed_leave_none()
     ensures { FailedLeaveNone }
+{}
+
+/// An entry whose region is what lies outside the owner's may come where that leaves no values
+/// outside the linked regions.
+pub fn complement_may_come()
+    ensures { ComplementMayCome }
+{}
+
+/// It leaves none where its clauses, with those of the formulas behind them, have no model.
+pub fn no_model_leaves_none()
+    ensures { NoModelLeavesNone }
 {}
 
 /// The clauses of formulas have literals.

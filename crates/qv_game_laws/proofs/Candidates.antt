@@ -1,5 +1,5 @@
 -- Candidates for a place are terms of its sort over the region's variables.
-use Rattle.std.proofs.Common.{◌≡◌, ℕ, zero, suc, ◌+◌, ◌-◌, ◌^◌, ◌<◌, ◌==◌, ◌&&◌, ◌||◌, arith, Bool, true, false, cond, not, Option, Some, None, List, [], ◌∷◌, ◌++◌, filter, refl, sym, ap, ◌∙◌, subst, slice_get}
+use Rattle.std.proofs.Common.{◌≡◌, ℕ, zero, suc, ◌+◌, ◌-◌, ◌^◌, ◌<◌, ◌==◌, ◌&&◌, ◌||◌, arith, Bool, true, false, cond, not, Option, Some, None, List, [], ◌∷◌, ◌++◌, map, filter, refl, sym, ap, ◌∙◌, subst, slice_get}
 use Rattle.std.specs.Prelude.{IfSome, unwrap_or, option_map, option_and_then}
 use Rattle.std.specs.List.{AllByRecursion, flat_map}
 use Rattle.std.specs.Option.{option_to_list}
@@ -16,9 +16,10 @@ use Rattle.qv_words.specs.Tree.{Tree, Trees, Constant, Variable, Literal, Apply,
 use Rattle.qv_words.specs.Sorted.{no_levels, with_level, IsSorted, AreSortedBelow}
 use Rattle.qv_words.specs.Clauses.{nodes, is_among, with_nodes, with_nodes_of}
 use Rattle.qv_words.specs.Prenex.{binary, is_bool}
+use Rattle.qv_words.specs.Passes.{truth_literal}
 use Rattle.qv_words.specs.Inverse.{inverse_term, row_at, unary_row, target_term, number}
 use Rattle.qv_words.specs.InverseLaws.{IsOver as IsRowOver, AreOver as AreRowsOver}
-use Rattle.qv_words.specs.Choice.{occurrences, is_in, is_below_ite, literal_value, put_in_row, next_target, descend, targets_around, is_comparison, is_equation, targets, candidates_down, candidates_of_sides, candidates_of, is_outside, candidates}
+use Rattle.qv_words.specs.Choice.{occurrences, is_in, is_below_ite, literal_value, put_in_row, next_target, descend, targets_around, is_comparison, is_equation, targets, candidates_down, candidates_of_sides, candidates_of, is_outside, implications, definitions, with_term, candidates}
 use Rattle.qv_words.proofs.Leaves.{both}
 use Rattle.qv_words.proofs.Ranks.{sorts_parts, rank_parts}
 use Rattle.qv_words.proofs.InSort.{two_widths-parts, two_alike-parts}
@@ -26,7 +27,8 @@ use Rattle.qv_words.proofs.Existing.{lawful_sorts}
 use Rattle.qv_words.proofs.InverseFits.{fits}
 use Rattle.qv_words.proofs.InverseOver.{over, before_over, behind_over}
 use Rattle.qv_words.proofs.InverseTrees.{same_width}
-use Rattle.qv_game_laws.proofs.Terms.{OfVariable, IsOver, AreOver, IsOf, Puts, put-of, over-sorted_each, over-lawful, over-sort}
+use Rattle.qv_game_laws.proofs.Terms.{OfVariable, IsOver, AreOver, IsOf, HasSort, Puts, put-of, over-sorted_each, over-lawful, over-sort}
+use Rattle.qv_game_laws.proofs.Definitions.{parts-of, together-of}
 use Rattle.qv_words.proofs.Elements.{all-both, either}
 
 -- the variables of a row
@@ -171,10 +173,6 @@ next-right P o a b t r h ht =
 then-of : (Q R : Tree → Type 0) (p : Option Tree) (f : Tree → Option Tree) → IfSome p Q → ((t : Tree) → Q t → IfSome (f t) R) → IfSome (option_and_then f p) R
 then-of Q R None f h k = tt
 then-of Q R (Some t) f h k = k t h
-
--- the place's own sort
-abbrev pub HasSort : OfVariable → ℕ → Sort → Type 0
-HasSort P x s = (r : Sort) → P x r → r ≡ s
 
 descend-of : (P : OfVariable) (x : ℕ) (s : Sort) → HasSort P x s → (side t : Tree) (r : Sort) → IsOf P r side → IsOf P r t → IfSome (descend x side t) (IsOf P s)
 descend-of P x s own (Variable l q) t r h ht = go (l == x) refl
@@ -339,8 +337,13 @@ IsCandidate P first end s t = IsOf P s t × (is_outside first end t ≡ true)
 pub candidates-over : (P : OfVariable) (first end : ℕ) (region : Tree) (x : ℕ) (s : Sort) → HasSort P x s → IsOver P region → AllByRecursion (IsCandidate P first end s) (candidates first end region x)
 unfolding candidates
 candidates-over P first end region x s own h =
-    let found : List Tree = flat_map (candidates_of x) (nodes (region ∷ [])) in
-    let each = all-flat (IsOver P) (IsOf P s) (candidates_of x) (nodes (region ∷ [])) (of-subtree P x s own) (nodes-over P [] region tt h) in
+    let literal : List Tree = flat_map (candidates_of x) (nodes (region ∷ [])) in
+    let defined : List Tree = definitions first end region x in
+    let found : List Tree = defined ++ literal in
+    let over = nodes-over P [] region tt h in
+    let each = both (IsOf P s) defined literal
+    (together-of P first end x s region own (map (with_term x (truth_literal true)) (implications first end region x)) (parts-of P first end x s region own (nodes (region ∷ [])) over))
+    (all-flat (IsOver P) (IsOf P s) (candidates_of x) (nodes (region ∷ [])) (of-subtree P x s own) over) in
     let kept : List Tree = filter (is_outside first end) found in
     all-both (IsOf P s) (λ t. is_outside first end t ≡ true) kept
     (recursion_from_All (IsOf P s) kept (All-filter (is_outside first end) (IsOf P s) found (All-from_recursion (IsOf P s) found each)))

@@ -14,8 +14,8 @@ use Rattle.qv_words.specs.Choice.{candidates, with_term, IsChosen, AreChosen}
 use Rattle.qv_words.specs.ChoiceLaws.{HasSortAt, HasSortsFrom}
 use Rattle.qv_game_laws.specs.CandidateLaws.{HasValuesAt, HasValuesFrom, CandidatesAreTerms, ChosenAreTerms}
 use Rattle.qv_words.proofs.Leaves.{back}
-use Rattle.qv_game_laws.proofs.Terms.{OfVariable, IsOver, IsOf, EachLeaf, Puts, over-put, over-from, over-sorted, over-free, over-constants, over-leaves, over-from_term, term-from_over}
-use Rattle.qv_game_laws.proofs.Candidates.{HasSort, IsCandidate, candidates-over}
+use Rattle.qv_game_laws.proofs.Terms.{OfVariable, IsOver, IsOf, HasSort, EachLeaf, Puts, over-put, over-from, over-sorted, over-free, over-constants, over-leaves, over-from_term, term-from_over}
+use Rattle.qv_game_laws.proofs.Candidates.{IsCandidate, candidates-over}
 use Rattle.qv_words.proofs.Elements.{zip-more}
 
 literal-of : (P : OfVariable) (first end : ℕ) (s : Sort) (t : Tree) (o : Option ℕ) → IsLawful s → ((v : ℕ) → o ≡ Some v → IsValueOf v s) → IsSomeAnd o (λ n. t ≡ Literal s n) → IsCandidate P first end s t

@@ -45,7 +45,7 @@ owned p entries n e block later h first o =
 
 own-block : (p : Problem) (entries : List Entry) (n : ℕ) (e : Entry) (block : Block) → IsEntryAt p entries n e block → e.winner ≡ block.owner → LinksToOne (linked_regions p (take n entries) e) (IsOwned p e block)
 own-block p entries n e block h owner =
-    subst (λ (b : Bool). MatchBool b (LinksToOne (linked_regions p (take n entries) e) (IsOwned p e block)) (IsForced p e block (linked_regions p (take n entries) e))) (itself e.winner block.owner owner) (meets p entries n e block h)
+    subst (λ (b : Bool). MatchBool b (LinksToOne (linked_regions p (take n entries) e) (IsOwned p e block)) (IsForced p (take n entries) e block (linked_regions p (take n entries) e))) (itself e.winner block.owner owner) (meets p entries n e block h)
 
 pub owned-terms : OwnedTerms
 owned-terms p entries n e block h owner =
@@ -67,6 +67,6 @@ owned-step p entries n e block later point values h owner one typed holds means 
 pub forced-step : ForcedStep
 forced-step p entries n e block point values h other typed each holds = go (same_quantifier e.winner block.owner) refl (meets p entries n e block h)
   where
-    go : (b : Bool) → same_quantifier e.winner block.owner ≡ b → MatchBool b (LinksToOne (linked_regions p (take n entries) e) (IsOwned p e block)) (IsForced p e block (linked_regions p (take n entries) e)) → (k : ℕ) × IsSomeAnd (slice_get (linked_regions p (take n entries) e) k) (λ t. IsTrueAt (point ++ values) t)
+    go : (b : Bool) → same_quantifier e.winner block.owner ≡ b → MatchBool b (LinksToOne (linked_regions p (take n entries) e) (IsOwned p e block)) (IsForced p (take n entries) e block (linked_regions p (take n entries) e)) → (k : ℕ) × IsSomeAnd (slice_get (linked_regions p (take n entries) e) k) (λ t. IsTrueAt (point ++ values) t)
     go true is k = absurd (other (same-quantifier e.winner block.owner is))
     go false is k = k.closed point values typed each holds

@@ -1,4 +1,5 @@
 pub mod Terms
+pub mod Definitions
 pub mod Candidates
 pub mod ChosenTerms
 pub mod Each

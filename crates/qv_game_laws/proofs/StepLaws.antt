@@ -189,7 +189,7 @@ entry-steps p entries m e hp linked here = at-level e.level refl
         let there = some-and (slice_get (blocks_of p.prefix) j) (MeetsBlock p (take m entries) e) (subst (λ (k : ℕ). IsSomeAnd (block_numbered (blocks_of p.prefix) k) (MeetsBlock p (take m entries) e)) is entry.block) in
         record { index = j; level = is; block = there.0; at = there.1; region = region-of p e j is entry.region; step = step there.0 there.1 (same_quantifier e.winner there.0.owner) there.2 }
       where
-        step : (b : Block) → slice_get (blocks_of p.prefix) j ≡ Some b → (k : Bool) → MatchBool k (LinksToOne (linked_regions p (take m entries) e) (IsOwned p e b)) (IsForced p e b (linked_regions p (take m entries) e)) → StepOf p entries e b j k
+        step : (b : Block) → slice_get (blocks_of p.prefix) j ≡ Some b → (k : Bool) → MatchBool k (LinksToOne (linked_regions p (take m entries) e) (IsOwned p e b)) (IsForced p (take m entries) e b (linked_regions p (take m entries) e)) → StepOf p entries e b j k
         step b at true h =
             let one = one-link (linked_regions p (take m entries) e) (IsOwned p e b) h in
             let leads = leads-to p entries m e 0 one.0 entry.links one.1 in

@@ -37,6 +37,10 @@ abbrev mutual
 abbrev pub IsOf : OfVariable → Sort → Tree → Type 0
 IsOf P s t = IsOver P t × (tree_sort t ≡ Some s)
 
+-- the place's own sort
+abbrev pub HasSort : OfVariable → ℕ → Sort → Type 0
+HasSort P x s = (r : Sort) → P x r → r ≡ s
+
 -- the leaves of a term, as a list
 abbrev pub EachLeaf : OfVariable → List (ℕ × Sort) → Type 0
 EachLeaf P leaves = AllByRecursion (λ leaf. P leaf.0 leaf.1) leaves

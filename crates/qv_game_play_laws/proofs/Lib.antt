@@ -1,2 +1,3 @@
 pub mod Queries
 pub mod Moves
+pub mod Complement

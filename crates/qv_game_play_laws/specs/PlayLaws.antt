@@ -1,5 +1,5 @@
 -- What a move of the level game makes of a list of entries that is played.
-use Rattle.std.specs.Prelude.{◌≡◌, ℕ, ◌+◌, ◌≤◌, Bool, true, Some, List, [], ◌∷◌, ◌++◌, map, take, length, slice_get, All}
+use Rattle.std.specs.Prelude.{◌≡◌, ◌≢◌, ℕ, ◌+◌, ◌≤◌, Bool, true, Some, List, [], ◌∷◌, ◌++◌, map, take, length, slice_get, All}
 use Rattle.std.specs.List.{list_all}
 use Rattle.qv_words.specs.declared.sort.Sort.{Sort}
 use Rattle.qv_words.specs.declared.sort.Sort.TheVariants.{Bool as BoolSort}
@@ -7,6 +7,7 @@ use Rattle.qv_words.specs.Tree.{Tree}
 use Rattle.qv_words.specs.Gate.{Lit, lit_value, clauses_value}
 use Rattle.qv_words.specs.Clauses.{cnf}
 use Rattle.qv_words.specs.Choice.{AreChosen, IsTrueAt}
+use Rattle.qv_words.specs.Prenex.{negation}
 use Rattle.qv_words.specs.Problem.{Problem, Quantifier, conjunction, other}
 use Rattle.qv_words.specs.Skolem.{IsTermOf}
 use Rattle.qv_words.specs.Linked.{Block, Entry, Run, AreValues, blocks_of, block_numbered, entries_of, equation_of, last_region, places_below, with_terms}
@@ -70,6 +71,31 @@ ForcedIsPlayed =
     AssumeAll (query_list p entries winner (level + 1)) (sorts_below p (level + 1)) point runs core →
     ((v : ℕ → Bool) → clauses_value v (cnf (query_list p entries winner (level + 1))) ≡ true → list_all (lit_value v) core ≡ true → ⊥) →
     IsPlayed p (entries ++ forced_entry p entries level winner point runs ∷ [])
+
+-- what lies outside all regions of a player at a level
+abbrev pub outside_all : List Entry → Quantifier → ℕ → Tree
+outside_all entries winner level = conjunction (map (λ f. negation f.region) (entries_of level winner entries))
+
+-- the entry of a player who doesn't own the block: outside all of the owner's regions this has none
+abbrev pub complement_entry : Problem → List Entry → ℕ → Quantifier → List ℕ → Entry
+complement_entry p entries level winner point = record {
+  level = level;
+  winner = winner;
+  region = outside_all entries (other winner) level;
+  point = point;
+  terms = [];
+  links = all_links p entries winner level;
+}
+
+-- it is played where the owner has regions at the level, the point lies in none of them, and the
+-- clauses of lying outside them all have no model with those of what was asked behind them
+abbrev pub ComplementIsPlayed : Type 0
+ComplementIsPlayed =
+    (p : Problem) (entries : List Entry) (level : ℕ) (winner : Quantifier) (block : Block) (point : List ℕ) → MayMove p entries level winner point →
+    IsSettled p entries → entries_of level (other winner) entries ≢ [] → All (λ f. IsTrueAt point f.region → ⊥) (entries_of level (other winner) entries) →
+    block_numbered (blocks_of p.prefix) level ≡ Some block → (winner ≡ block.owner → ⊥) →
+    ((v : ℕ → Bool) → clauses_value v (cnf (outside_all entries (other winner) level ∷ query_list p entries winner (level + 1))) ≡ true → ⊥) →
+    IsPlayed p (entries ++ complement_entry p entries level winner point ∷ [])
 
 -- the later region that an owner's entry leads to: the last region, or that of its one link
 pub record LeadsOn (p : Problem) (entries : List Entry) (level : ℕ) (winner : Quantifier) (links : List ℕ) (later : Tree) : Type 0 where

@@ -2,6 +2,7 @@
 
 ghost use Rattle.qv_game_play_laws.specs.PlayLaws.{QueriesAreOverPlaces, AnswersLieOutside};
 ghost use Rattle.qv_game_play_laws.specs.PlayLaws.{LeftOutLieOutside, ForcedIsPlayed, OwnedIsPlayed};
+ghost use Rattle.qv_game_play_laws.specs.PlayLaws.{ComplementIsPlayed};
 
 /// The formulas of a query list are formulas over the problem's places.
 pub fn queries_are_over_places()
@@ -21,6 +22,11 @@ pub fn left_out_lie_outside()
 /// Where bits of a point leave its block's owner no values, the other player's entry may come.
 pub fn forced_is_played()
     ensures { ForcedIsPlayed }
+{}
+
+/// Where the outside of the owner's regions leaves it none, so may the one of that region.
+pub fn complement_is_played()
+    ensures { ComplementIsPlayed }
 {}
 
 /// Where values of its block lead the owner to a later region of its own, its entry may come.

@@ -7,6 +7,7 @@ use Rattle.std.proofs.lemmas.List.Elements.{All-take}
 use Rattle.qv_words.specs.declared.sort.Sort.{Sort}
 use Rattle.qv_words.specs.declared.word.Word.{Word}
 use Rattle.qv_words.specs.Tree.{Tree}
+use Rattle.qv_words.specs.Word.{sorts_of}
 use Rattle.qv_words.specs.Problem.{Problem, Quantifier, other}
 use Rattle.qv_words.specs.Linked.{Block, Entry, blocks_of}
 use Rattle.qv_words.proofs.Elements.{get-map}
@@ -18,7 +19,7 @@ use Rattle.qv_meter.specs.Records.{Metering}
 use Rattle.qv_game_play_laws.specs.PlayLaws.{sorts_below}
 use Rattle.qv_game_entry_laws.specs.PointLaws.{places_from}
 use Rattle.qv_store.specs.Problems.{quantifier_of}
-use Rattle.qv_game_lanes.specs.Asking.{IsAnswer}
+use Rattle.qv_game_lanes.specs.Asking.{IsAnswer, MakeTrue}
 use Rattle.qv_game_lanes.specs.declared.asking.Answer.{Answer}
 use Rattle.qv_game_state.specs.declared.query.Query.{Query}
 use Rattle.qv_game_state.specs.Asking.{IsAnswered, IsAnswerAt, IsAsked}
@@ -32,27 +33,31 @@ use Rattle.qv_game_state.proofs.Blocks.{spans-count}
 use Rattle.qv_game_state.proofs.Counting.{at-or_not, map-set, set-here, set-there}
 use Rattle.qv_game_state.proofs.Levels.{IsLevel, front-named, front-typed, level-of, places-within}
 
--- the lane of a level's block may be asked
-pub may-ask : (trees : List Tree) (p : Problem) (limit : ℕ) (g : Game) (level : ℕ) (point : List Word) (m : Metering) (s : Span) (b : Block) (q : Query) → IsPlaying trees p limit g level point m → IsLevel p level s b → slice_get g.queries.items (level - 1) ≡ Some q → IsAsked trees p (entries_in trees g.entries) limit (map tally_of g.queries.items) q (take s.end g.places.items) point (level + 1) m
-may-ask trees p limit g level point m s b q h is at =
+-- the lane of a level's block may be asked, at a front of a point of it
+pub may-ask-at : (trees : List Tree) (p : Problem) (limit : ℕ) (g : Game) (level : ℕ) (point : List Word) (m : Metering) (s : Span) (b : Block) (q : Query) → IsGame trees p limit g m → IsUndecided (entries_in trees g.entries) → 1 ≤ level → level ≤ block_count p → sorts_of point ≡ take (length point) (sorts_below p (level + 1)) → IsLevel p level s b → slice_get g.queries.items (level - 1) ≡ Some q → IsAsked trees p (entries_in trees g.entries) limit (map tally_of g.queries.items) q (take s.end g.places.items) point (level + 1) m
+may-ask-at trees p limit g level point m s b q h undecided low high typed is at =
     let entries = entries_in trees g.entries in
-    let spot = h.spot in
     let back : level - 1 ≡ level + 1 - 2 = omega arith in
     let count : length g.entries ≡ length entries = sym (length-map g.entries _) in
     record {
-      problem = h.game.problem;
-      played = h.game.played;
-      undecided = h.undecided;
-      of_level = record { low = (let low = spot.low in omega (arith, low)); high = (let high = spot.high in omega (arith, high)) };
-      query = subst (λ (i : ℕ). IsQueryAt trees p entries limit i q) back (h.game.queries (level - 1) q at);
+      problem = h.problem;
+      played = h.played;
+      undecided = undecided;
+      of_level = record { low = omega (arith, low); high = omega (arith, high) };
+      query = subst (λ (i : ℕ). IsQueryAt trees p entries limit i q) back (h.queries (level - 1) q at);
       tally = ap (slice_get (map tally_of g.queries.items)) (sym back) ∙ get-map tally_of g.queries.items (level - 1) q at;
-      charged = subst (λ (n : ℕ). IsCharged p n limit (map tally_of g.queries.items) m) count h.game.charged;
+      charged = subst (λ (n : ℕ). IsCharged p n limit (map tally_of g.queries.items) m) count h.charged;
       at_places = record {
-        low = All-take (λ n. n < length trees) s.end g.places.items h.game.below;
-        variables = ap (λ (n : ℕ). named trees (take n g.places.items)) is.end ∙ front-named trees p (level + 1) g.places.items h.game.places;
-        typed = front-typed p level b point spot.low is.at spot.sorts;
+        low = All-take (λ n. n < length trees) s.end g.places.items h.below;
+        variables = ap (λ (n : ℕ). named trees (take n g.places.items)) is.end ∙ front-named trees p (level + 1) g.places.items h.places;
+        typed = typed;
       };
     }
+
+-- the lane of a level's block may be asked
+pub may-ask : (trees : List Tree) (p : Problem) (limit : ℕ) (g : Game) (level : ℕ) (point : List Word) (m : Metering) (s : Span) (b : Block) (q : Query) → IsPlaying trees p limit g level point m → IsLevel p level s b → slice_get g.queries.items (level - 1) ≡ Some q → IsAsked trees p (entries_in trees g.entries) limit (map tally_of g.queries.items) q (take s.end g.places.items) point (level + 1) m
+may-ask trees p limit g level point m s b q h is at =
+    may-ask-at trees p limit g level point m s b q h.game h.undecided h.spot.low h.spot.high (front-typed p level b point h.spot.low is.at h.spot.sorts) is at
 
 -- a game in which one query was asked
 pub asked-queries : (trees : List Tree) (p : Problem) (entries : List Entry) (limit : ℕ) (queries : List Query) (i : ℕ) (q new : Query) → slice_get queries i ≡ Some q → AreQueries trees p entries limit queries → IsQueryAt trees p entries limit i new → AreQueries trees p entries limit (set queries i new)
@@ -128,6 +133,47 @@ asked-playing trees p limit g new level point s q r ids m after h span at places
       settled = subst (IsSettled p) (sym stays) h.settled;
       spot = subst (λ (es : List Entry). IsSpot p es level point) (sym stays) h.spot;
     }
+
+-- there is a span for each block
+pub spans-are : (trees : List Tree) (p : Problem) (limit : ℕ) (g : Game) (m : Metering) → IsGame trees p limit g m → length g.spans.items ≡ block_count p
+spans-are trees p limit g m h = sym (length-map g.spans.items span_of) ∙ ap length h.spans ∙ spans-count 0 (blocks_of p.prefix)
+
+pub some-spans : (trees : List Tree) (p : Problem) (limit : ℕ) (g : Game) (m : Metering) → IsPlaying trees p limit g 1 [] m → 1 ≤ length g.spans.items
+some-spans trees p limit g m h =
+    let count = spans-are trees p limit g m h.game in
+    let high = h.spot.high in
+    omega (arith, count, high)
+
+-- before any entry the lane of the last level may be asked with nothing fixed
+pub may-seek : (trees : List Tree) (p : Problem) (limit : ℕ) (g : Game) (level : ℕ) (m : Metering) (s : Kept) (q : Query) → IsPlaying trees p limit g 1 [] m → level ≡ length g.spans.items → slice_get g.spans.items (level - 1) ≡ Some s → slice_get g.queries.items (level - 1) ≡ Some q → IsAsked trees p (entries_in trees g.entries) limit (map tally_of g.queries.items) q (take s.end g.places.items) [] (level + 1) m
+may-seek trees p limit g level m s q h is span at =
+    let count = spans-are trees p limit g m h.game in
+    let some = some-spans trees p limit g m h in
+    let low : 1 ≤ level = omega (arith, is, some) in
+    let f = level-span trees p limit g level m s h.game low span in
+    may-ask-at trees p limit g level [] m (span_of s) f.0 q h.game h.undecided low (omega (arith, is, count)) refl f.1 at
+
+pub sought-stays : (trees : List Tree) (p : Problem) (limit : ℕ) (g new : Game) (level : ℕ) (s : Kept) (q r : Query) (ids : List ℕ) (m after : Metering) → IsPlaying trees p limit g 1 [] m → level ≡ length g.spans.items → slice_get g.spans.items (level - 1) ≡ Some s → slice_get g.queries.items (level - 1) ≡ Some q → ids ≡ take s.end g.places.items → new.spans.items ≡ g.spans.items → new.places.items ≡ g.places.items → new.entries ≡ g.entries → new.queries.items ≡ set g.queries.items (level - 1) r → ((x : Problem) (es : List Entry) (l : ℕ) (ts : List Tally) → IsAsked trees x es l ts q ids [] (level + 1) m → IsQueryAt trees x es l (level + 1 - 2) r × IsCharged x (length es) l (set ts (level + 1 - 2) (tally_of r)) after) → IsPlaying trees p limit new 1 [] after
+sought-stays trees p limit g new level s q r ids m after h is span at places spans kept entries queries asked =
+    let some = some-spans trees p limit g m h in
+    let low : 1 ≤ level = omega (arith, is, some) in
+    let may = may-seek trees p limit g level m s q h is span at in
+    let given = subst (λ (ns : List ℕ). IsAsked trees p (entries_in trees g.entries) limit (map tally_of g.queries.items) q ns [] (level + 1) m) (sym places) may in
+    let stays : entries_in trees new.entries ≡ entries_in trees g.entries = ap (entries_in trees) entries in
+    record {
+      game = asked-game trees p limit g new level q r m after low h.game at spans kept entries queries (asked p (entries_in trees g.entries) limit (map tally_of g.queries.items) given);
+      undecided = subst IsUndecided (sym stays) h.undecided;
+      settled = subst (IsSettled p) (sym stays) h.settled;
+      spot = subst (λ (es : List Entry). IsSpot p es 1 []) (sym stays) h.spot;
+    }
+
+-- and what it gives are values of all places
+pub sought-sorts : (trees : List Tree) (p : Problem) (limit : ℕ) (g : Game) (level : ℕ) (m : Metering) (s : Kept) (q : Query) (ids : List ℕ) (values : List Word) → IsPlaying trees p limit g 1 [] m → level ≡ length g.spans.items → slice_get g.spans.items (level - 1) ≡ Some s → slice_get g.queries.items (level - 1) ≡ Some q → ids ≡ take s.end g.places.items → ((x : Problem) (es : List Entry) (l : ℕ) (ts : List Tally) → IsAsked trees x es l ts q ids [] (level + 1) m → MakeTrue (query_list x es (quantifier_of q.winner) (level + 1)) (sorts_below x (level + 1)) [] values) → sorts_of values ≡ sorts_below p (block_count p + 1)
+sought-sorts trees p limit g level m s q ids values h is span at places answered =
+    let may = may-seek trees p limit g level m s q h is span at in
+    let given = subst (λ (ns : List ℕ). IsAsked trees p (entries_in trees g.entries) limit (map tally_of g.queries.items) q ns [] (level + 1) m) (sym places) may in
+    (answered p (entries_in trees g.entries) limit (map tally_of g.queries.items) given).sorts_are
+    ∙ ap (λ (n : ℕ). sorts_below p (n + 1)) (is ∙ spans-are trees p limit g m h.game)
 
 -- what the level's query was answered
 pub asked-answered : (trees : List Tree) (p : Problem) (limit : ℕ) (g : Game) (level : ℕ) (point : List Word) (m : Metering) (s : Kept) (q : Query) (ids : List ℕ) (answer : Answer) → IsPlaying trees p limit g level point m → slice_get g.spans.items (level - 1) ≡ Some s → slice_get g.queries.items (level - 1) ≡ Some q → ids ≡ take s.end g.places.items → ((x : Problem) (es : List Entry) (l : ℕ) (ts : List Tally) → IsAsked trees x es l ts q ids point (level + 1) m → IsAnswerAt x es q.winner (level + 1) point answer) → IsAnswered p (entries_in trees g.entries) level point answer

@@ -1,14 +1,18 @@
 //! A game: its blocks and places, what was entered, and what its lanes have.
 
-ghost use Rattle.std.specs.Prelude.{◌≡◌, ◌+◌, ◌-◌, ◌≤◌, ◌<◌, ◌∷◌, ◌++◌, [], IfOk, List, OnOk, Some};
+ghost use Rattle.std.specs.Prelude.{◌≡◌, ◌+◌, ◌-◌, ◌≤◌, ◌<◌, ◌∷◌, ◌++◌, [], IfOk, IfSome, List};
+ghost use Rattle.std.specs.Prelude.{OnOk, Some};
 ghost use Rattle.std.specs.Prelude.{length, map, ℕ};
 ghost use Rattle.qv_words.specs.Problem.{Problem as PlainProblem};
+ghost use Rattle.qv_words.specs.Word.{sorts_of};
 ghost use Rattle.qv_words.specs.Linked.{Entry as PlainEntry};
 ghost use Rattle.qv_store.specs.Nodes.{tree_at};
 ghost use Rattle.qv_store.specs.Problems.{quantifier_of};
 ghost use Rattle.qv_store.specs.Stores.{AreShared, Grows};
 ghost use Rattle.qv_entries.specs.Rows.{entries_in, entry_in, row_of};
+ghost use Rattle.qv_game_play_laws.specs.PlayLaws.{sorts_below};
 ghost use Rattle.qv_meter.specs.Charging.{MayChargeInstance};
+ghost use Rattle.qv_meter.specs.Queries.{block_count};
 ghost use Rattle.qv_meter.specs.Records.{after_instance};
 ghost use Rattle.qv_meter.specs.Units.{EntryUnit};
 ghost use Rattle.qv_game_state.specs.Counts.{SameButCounts};
@@ -67,6 +71,38 @@ impl Game {
         let end = self.spans[index].end as usize;
         let places = &self.places[..end];
         self.queries[index].ask(alloc, store, places, point, level + 1, meter)
+    }
+
+    /// Values of all places that lie in none of the regions of the player who doesn't own the last
+    /// block, if there are any. No value is fixed before.
+    pub fn seek(
+        &mut self,
+        alloc: Global,
+        store: &Store,
+        meter: &mut Meter,
+    ) -> Result<Option<Vec<Word>>, PlayFault>
+        requires { (p : PlainProblem) × (limit : ℕ)
+            × IsPlaying store.now p limit self.old 1 [] meter.old }
+        ensures playing { (p : PlainProblem) (limit : ℕ) →
+            IsPlaying store.now p limit self.old 1 [] meter.old →
+            IsPlaying store.now p limit self.new 1 [] meter.new }
+        ensures entries { self.new.entries ≡ self.old.entries }
+        ensures spans { self.new.spans ≡ self.old.spans }
+        ensures values { IfOk result (λ found. IfSome found (λ values. (p : PlainProblem)
+            (limit : ℕ) → IsPlaying store.now p limit self.old 1 [] meter.old →
+            sorts_of values.items ≡ sorts_below p (block_count p + 1))) }
+        ensures counts { SameButCounts meter.old meter.new }
+        ensures spent { IsSpentWhere result meter.new }
+    {
+        let level = self.spans.len();
+        let index = level - 1;
+        let end = self.spans[index].end as usize;
+        let places = &self.places[..end];
+        let above = level as u64 + 1;
+        match self.queries[index].ask(alloc, store, places, &[], above, meter)? {
+            Answer::Values(values) => Ok(Some(values)),
+            Answer::Core(_) => Ok(None),
+        }
     }
 
     /// One entry more, which may come: it is charged, and told to the lane that asks about it. Gives

@@ -1,5 +1,5 @@
 -- A forced entry with some of its links alone.
-use Rattle.std.proofs.Common.{◌≡◌, ℕ, zero, suc, ◌+◌, ◌<◌, ◌==◌, Bool, true, false, Option, Some, None, List, [], ◌∷◌, ◌++◌, length, map, take, slice_get, inl, inr, refl, sym, ap, ◌∙◌, subst, arith}
+use Rattle.std.proofs.Common.{◌≡◌, ◌⊎◌, ℕ, zero, suc, ◌+◌, ◌<◌, ◌==◌, Bool, true, false, Option, Some, None, List, [], ◌∷◌, ◌++◌, length, map, take, slice_get, inl, inr, refl, sym, ap, ◌∙◌, subst, arith}
 use Rattle.std.specs.Prelude.{All, Contains, MatchBool, option_map, unwrap_or}
 use Rattle.std.specs.List.{AllByRecursion, AllZip}
 use Rattle.std.proofs.lemmas.Bool.{cases_Bool, eq-eqb, eqb-true}
@@ -17,7 +17,7 @@ use Rattle.qv_words.specs.Skolem.{IsTermOf}
 use Rattle.qv_words.specs.Prenex.{binary}
 use Rattle.qv_words.specs.Problem.{Problem, Quantifier, Existential, Universal, conjunction, conjunction_with}
 use Rattle.qv_words.specs.Choice.{IsTrueAt, is_in}
-use Rattle.qv_words.specs.Linked.{Block, Entry, IsEntry, IsForced, IsLink, IsOwned, IsPlaceBelow, IsRegion, IsRun, LinksToOne, MeetsBlock, Run, block_numbered, blocks_of, entries_named, equation_of, fixing, last_region, linked_regions, places_below, same_quantifier}
+use Rattle.qv_words.specs.Linked.{Block, Entry, IsComplement, IsCube, IsEntry, IsForced, IsLink, IsOwned, IsPlaceBelow, IsRegion, IsRun, LinksToOne, MeetsBlock, Run, block_numbered, blocks_of, entries_named, equation_of, fixing, last_region, linked_regions, places_below, same_quantifier}
 use Rattle.qv_words.proofs.Elements.{all-at, all-both_weaker, all-weaker, found-at, get-map, in-front, of-some, some-and, to-some}
 use Rattle.qv_game_laws.proofs.Terms.{over-agree, over-from_term}
 use Rattle.qv_game_laws.proofs.Each.{each-entry}
@@ -130,24 +130,31 @@ at-last p entries e is = rw is refl
 at-other : (p : Problem) (entries : List Entry) (e : Entry) → (e.level == length (blocks_of p.prefix)) ≡ false → linked_regions p entries e ≡ map (λ (l : Entry). l.region) (entries_named entries e.links)
 at-other p entries e is = rw is refl
 
-same-forced : (p : Problem) (e : Entry) (links : List ℕ) (b : Block) (rs : List Tree) → IsForced p e b rs → IsForced p (with_links e links) b rs
-same-forced p e links b rs h = record {
-  no_terms = h.no_terms;
+-- what an entry's region lies outside of doesn't turn on its links
+same-complement : (earlier : List Entry) (e : Entry) (links : List ℕ) → IsComplement earlier e → IsComplement earlier (with_links e links)
+same-complement earlier e links h = record { numbers = h.numbers; some = h.some; each = h.each; region = h.region }
+
+same-form : (p : Problem) (earlier : List Entry) (e : Entry) (links : List ℕ) (rs : List Tree) → IsCube p e rs ⊎ IsComplement earlier e → IsCube p (with_links e links) rs ⊎ IsComplement earlier (with_links e links)
+same-form p earlier e links rs (inl h) = inl (record {
   runs = h.runs;
   each = All-from_recursion (IsRun p (with_links e links) rs) h.runs
       (all-weaker (IsRun p e rs) (IsRun p (with_links e links) rs) h.runs (λ r run. record { below = run.below; ordered = run.ordered; within = run.within; occurs = run.occurs }) (recursion_from_All (IsRun p e rs) h.runs h.each));
   apart = h.apart;
   region = h.region;
-  closed = h.closed;
-}
+})
+same-form p earlier e links rs (inr h) = inr (same-complement earlier e links h)
 
-other-forced : (trees : List Tree) (p : Problem) (rows : List Row) (e : Entry) (region : ℕ) (links : List ℕ) (b : Block) → IsRegion p e → tree_at trees region ≡ e.region → AreEnough trees region rows e.links links → IsForced p e b (map (λ (l : Entry). l.region) (entries_named (entries_in trees rows) e.links)) → IsForced p (with_links e links) b (map (λ (l : Entry). l.region) (entries_named (entries_in trees rows) links))
-other-forced trees p rows e region links b of_region is enough h =
+same-forced : (p : Problem) (earlier : List Entry) (e : Entry) (links : List ℕ) (b : Block) (rs : List Tree) → IsForced p earlier e b rs → IsForced p earlier (with_links e links) b rs
+same-forced p earlier e links b rs h = record { no_terms = h.no_terms; form = same-form p earlier e links rs h.form; closed = h.closed }
+
+-- the places of a cube's runs occur in what is linked
+other-form : (trees : List Tree) (p : Problem) (rows : List Row) (e : Entry) (region : ℕ) (links : List ℕ) → tree_at trees region ≡ e.region → AreEnough trees region rows e.links links → IsCube p e (map (λ (l : Entry). l.region) (entries_named (entries_in trees rows) e.links)) ⊎ IsComplement (entries_in trees rows) e → IsCube p (with_links e links) (map (λ (l : Entry). l.region) (entries_named (entries_in trees rows) links)) ⊎ IsComplement (entries_in trees rows) (with_links e links)
+other-form trees p rows e region links is enough (inr h) = inr (same-complement (entries_in trees rows) e links h)
+other-form trees p rows e region links is enough (inl h) =
     let entries = entries_in trees rows in
     let old = map (λ (l : Entry). l.region) (entries_named entries e.links) in
     let new = map (λ (l : Entry). l.region) (entries_named entries links) in
-    record {
-      no_terms = h.no_terms;
+    inl (record {
       runs = h.runs;
       each = All-from_recursion (IsRun p (with_links e links) new) h.runs
           (all-both_weaker (IsRun p e old) (λ r. is_in r.place e.region ≡ true) (IsRun p (with_links e links) new) h.runs
@@ -159,6 +166,16 @@ other-forced trees p rows e region links b of_region is enough h =
           (subst (λ (t : Tree). AllByRecursion (λ r. is_in r.place t ≡ true) h.runs) (sym h.region) (runs-in p e.point h.runs)));
       apart = h.apart;
       region = h.region;
+    })
+
+other-forced : (trees : List Tree) (p : Problem) (rows : List Row) (e : Entry) (region : ℕ) (links : List ℕ) (b : Block) → IsRegion p e → tree_at trees region ≡ e.region → AreEnough trees region rows e.links links → IsForced p (entries_in trees rows) e b (map (λ (l : Entry). l.region) (entries_named (entries_in trees rows) e.links)) → IsForced p (entries_in trees rows) (with_links e links) b (map (λ (l : Entry). l.region) (entries_named (entries_in trees rows) links))
+other-forced trees p rows e region links b of_region is enough h =
+    let entries = entries_in trees rows in
+    let old = map (λ (l : Entry). l.region) (entries_named entries e.links) in
+    let new = map (λ (l : Entry). l.region) (entries_named entries links) in
+    record {
+      no_terms = h.no_terms;
+      form = other-form trees p rows e region links is enough h.form;
       closed = λ point values typed each holds.
           let there = h.closed point values typed each holds in
           let t = some-and (slice_get old there.0) (λ t. IsTrueAt (point ++ values) t) there.1 in
@@ -170,12 +187,12 @@ other-forced trees p rows e region links b of_region is enough h =
           (at.0, to-some (slice_get new at.0) (λ t. IsTrueAt (point ++ values) t) (tree_at trees link.2.region) at.1 link.4);
     }
 
-fewer-forced : (trees : List Tree) (p : Problem) (rows : List Row) (e : Entry) (region : ℕ) (links : List ℕ) (b : Block) → IsRegion p e → tree_at trees region ≡ e.region → AreEnough trees region rows e.links links → IsForced p e b (linked_regions p (entries_in trees rows) e) → IsForced p (with_links e links) b (linked_regions p (entries_in trees rows) (with_links e links))
+fewer-forced : (trees : List Tree) (p : Problem) (rows : List Row) (e : Entry) (region : ℕ) (links : List ℕ) (b : Block) → IsRegion p e → tree_at trees region ≡ e.region → AreEnough trees region rows e.links links → IsForced p (entries_in trees rows) e b (linked_regions p (entries_in trees rows) e) → IsForced p (entries_in trees rows) (with_links e links) b (linked_regions p (entries_in trees rows) (with_links e links))
 fewer-forced trees p rows e region links b of_region is enough h =
     let entries = entries_in trees rows in
     elim (cases_Bool (e.level == length (blocks_of p.prefix))) [
-      | inl last ↦ subst (IsForced p (with_links e links) b) (at-last p entries e last ∙ sym (at-last p entries (with_links e links) last)) (same-forced p e links b (linked_regions p entries e) h)
-      | inr other ↦ subst (IsForced p (with_links e links) b) (sym (at-other p entries (with_links e links) other)) (other-forced trees p rows e region links b of_region is enough (subst (IsForced p e b) (at-other p entries e other) h))
+      | inl last ↦ subst (IsForced p entries (with_links e links) b) (at-last p entries e last ∙ sym (at-last p entries (with_links e links) last)) (same-forced p entries e links b (linked_regions p entries e) h)
+      | inr other ↦ subst (IsForced p entries (with_links e links) b) (sym (at-other p entries (with_links e links) other)) (other-forced trees p rows e region links b of_region is enough (subst (IsForced p entries e b) (at-other p entries e other) h))
     ]
 
 apart-owner : (q r : Quantifier) → (q ≡ r → ⊥) → same_quantifier q r ≡ false
@@ -193,7 +210,7 @@ fewer-played trees p rows e region links b settled at other is enough h =
     let entry = last.0 in
     let apart = apart-owner e.winner b.owner other in
     let meets : MeetsBlock p entries e b = of-some (block_numbered (blocks_of p.prefix) e.level) (MeetsBlock p entries e) b at entry.block in
-    let forced : IsForced p e b (linked_regions p entries e) = subst (λ (q : Bool). MatchBool q (LinksToOne (linked_regions p entries e) (IsOwned p e b)) (IsForced p e b (linked_regions p entries e))) apart meets in
+    let forced : IsForced p entries e b (linked_regions p entries e) = subst (λ (q : Bool). MatchBool q (LinksToOne (linked_regions p entries e) (IsOwned p e b)) (IsForced p entries e b (linked_regions p entries e))) apart meets in
     let fewer = fewer-forced trees p rows e region links b entry.region is enough forced in
     let may : IsEntry p entries f = record {
       links = record {
@@ -204,7 +221,7 @@ fewer-played trees p rows e region links b settled at other is enough h =
       };
       region = record { formula = entry.region.formula; variables = entry.region.variables; point = entry.region.point; holds = entry.region.holds };
       block = to-some (block_numbered (blocks_of p.prefix) e.level) (MeetsBlock p entries f) b at
-          (subst (λ (q : Bool). MatchBool q (LinksToOne (linked_regions p entries f) (IsOwned p f b)) (IsForced p f b (linked_regions p entries f))) (sym apart) fewer);
+          (subst (λ (q : Bool). MatchBool q (LinksToOne (linked_regions p entries f) (IsOwned p f b)) (IsForced p entries f b (linked_regions p entries f))) (sym apart) fewer);
     } in
     let fresh : IsFresh p entries f = record { outside = last.1.outside; undecided = last.1.undecided; follows = settled-follows p entries links settled } in
     longer p [] entries f (shorter p [] entries e h) (may, fresh)

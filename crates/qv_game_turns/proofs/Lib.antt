@@ -1,6 +1,7 @@
 pub mod Spots
 pub mod Owning
 pub mod Forcing
+pub mod Outside
 pub mod Turned
 pub mod Moving
 pub mod Numbering

@@ -33,13 +33,14 @@ use Rattle.qv_game_state.specs.declared.game.Game.{Game}
 use Rattle.qv_game_state.specs.declared.query.Query.{Query}
 use Rattle.qv_game_state.specs.declared.spans.Span.{Span as Kept}
 use Rattle.qv_game_state.specs.Entering.{IsEntered, MayEnter}
-use Rattle.qv_game_turns.specs.Moves.{IsForcedIn, MayForce, MayOwn, IsLater, IsLed}
+use Rattle.qv_game_turns.specs.Moves.{IsForcedIn, IsForcedRegion, MayForce, MayOwn, IsLater, IsLed, linked_to_all}
 use Rattle.qv_game_state.specs.Naming.{named_by}
 use Rattle.qv_game_state.specs.Playing.{IsGame}
 use Rattle.qv_game_state.specs.Spans.{span_of}
 use Rattle.qv_game_state.specs.Spots.{BlockAt}
 use Rattle.qv_game_state.proofs.Entered.{with-row}
 use Rattle.qv_game_turns.proofs.Forcing.{IsFailing, forced-played, other-not}
+use Rattle.qv_game_turns.proofs.Outside.{numbered}
 use Rattle.qv_game_turns.proofs.Fewer.{last-term, rows-formulas, thinned-played}
 use Rattle.qv_game_links.specs.Thinning.{AreThinned, IsFormula}
 use Rattle.qv_game_state.proofs.Keeping.{entries-stay, game-stays, posed-stays}
@@ -161,11 +162,21 @@ force-whole trees new posed p limit g level point core m s q runs region h span 
     subst (λ (es : List Entry). IsPlayed p (es ++ record { level = level; winner = w; region = tree_at new region; point = values_of point; terms = []; links = all_links p es w level } ∷ [])) (sym (entries-stay trees new g.entries grows h.game.rows))
     (forced-played trees p entries level (span_of s) failing.0 w point q.lane (take s.end g.places.items) core runs (tree_at new region) (all_links p entries w level) failing.1 stands.tree refl)
 
--- its region is a formula, as those of the game's entries are
-pub force-formula : (trees new : List Tree) (posed : Posed) (p : Problem) (limit : ℕ) (g : Game) (level : ℕ) (point : List Word) (core : List Literal) (m : Metering) (s : Kept) (q : Query) (runs : List Run) (region : ℕ) → MayForce trees posed p limit g level point core m → slice_get g.spans.items (level - 1) ≡ Some s → slice_get g.queries.items (level - 1) ≡ Some q → map run_of runs ≡ named_runs (named_by core) (known_of trees q.lane) 0 (named trees (take s.end g.places.items)) (values_of point) → Grows trees new → StandsAt new region (conjunction (map (fixing_at point) runs)) → IsFormula new region
-force-formula trees new posed p limit g level point core m s q runs region h span at runs_are grows stands = record {
-  below = stands.below;
-  term = last-term p (entries_in new g.entries) _ (force-whole trees new posed p limit g level point core m s q runs region h span at runs_are grows stands);
+-- the region that they fix is one from which that player wins
+pub force-region : (trees new : List Tree) (posed : Posed) (p : Problem) (limit : ℕ) (g : Game) (level : ℕ) (point : List Word) (core : List Literal) (m : Metering) (s : Kept) (q : Query) (runs : List Run) (region : ℕ) (b : Block) → MayForce trees posed p limit g level point core m → slice_get g.spans.items (level - 1) ≡ Some s → slice_get g.queries.items (level - 1) ≡ Some q → map run_of runs ≡ named_runs (named_by core) (known_of trees q.lane) 0 (named trees (take s.end g.places.items)) (values_of point) → Grows trees new → StandsAt new region (conjunction (map (fixing_at point) runs)) → BlockAt p level b → IsForcedRegion new p g.entries level (other b.owner) point region
+force-region trees new posed p limit g level point core m s q runs region b h span at runs_are grows stands block =
+    let who : quantifier_of q.winner ≡ other b.owner = (h.game.queries (level - 1) q at).opponent b block in
+    record {
+      below = stands.below;
+      played = subst (λ (w : Quantifier). IsPlayed p (entries_in new g.entries ++ linked_to_all p (entries_in new g.entries) level w (values_of point) (tree_at new region) ∷ [])) who
+          (force-whole trees new posed p limit g level point core m s q runs region h span at runs_are grows stands);
+    }
+
+-- such a region is a formula, as those of the game's entries are
+pub region-formula : (new : List Tree) (p : Problem) (rows : List Row) (level : ℕ) (w : Quantifier) (point : List Word) (id : ℕ) → IsForcedRegion new p rows level w point id → IsFormula new id
+region-formula new p rows level w point id h = record {
+  below = h.below;
+  term = last-term p (entries_in new rows) (linked_to_all p (entries_in new rows) level w (values_of point) (tree_at new id)) h.played;
 }
 
 pub force-rows : (trees new : List Tree) (p : Problem) (limit : ℕ) (g : Game) (m : Metering) → IsGame trees p limit g m → Grows trees new → All (λ r. IsFormula new r.region) g.entries
@@ -173,17 +184,18 @@ force-rows trees new p limit g m h grows =
     let stays = game-stays trees new p limit g m grows h in
     rows-formulas new p g.entries stays.rows stays.played
 
-pub force-enters : (trees new : List Tree) (posed : Posed) (p : Problem) (limit : ℕ) (g : Game) (level : ℕ) (point front : List Word) (core : List Literal) (m : Metering) (s : Kept) (q : Query) (runs : List Run) (region : ℕ) (terms links : List ℕ) → MayForce trees posed p limit g level point core m → slice_get g.spans.items (level - 1) ≡ Some s → slice_get g.queries.items (level - 1) ≡ Some q → map run_of runs ≡ named_runs (named_by core) (known_of trees q.lane) 0 (named trees (take s.end g.places.items)) (values_of point) → Grows trees new → StandsAt new region (conjunction (map (fixing_at point) runs)) → AreThinned new region g.entries (all_links p (entries_in new g.entries) (quantifier_of q.winner) level) links → terms ≡ [] → front ≡ point → MayEnter new posed p limit g (record { level = level; winner = quantifier_of q.winner; region = region; point = values_of front; terms = terms; links = links }) m
-force-enters trees new posed p limit g level point front core m s q runs region terms links h span at runs_are grows stands thinned none front_is =
+pub force-enters : (trees new : List Tree) (posed : Posed) (p : Problem) (limit : ℕ) (g : Game) (level : ℕ) (point front : List Word) (core : List Literal) (m : Metering) (q : Query) (region : ℕ) (terms links : List ℕ) (b : Block) → MayForce trees posed p limit g level point core m → slice_get g.queries.items (level - 1) ≡ Some q → BlockAt p level b → Grows trees new → IsForcedRegion new p g.entries level (other b.owner) point region → AreThinned new region g.entries (all_links p (entries_in new g.entries) (quantifier_of q.winner) level) links → terms ≡ [] → front ≡ point → MayEnter new posed p limit g (record { level = level; winner = quantifier_of q.winner; region = region; point = values_of front; terms = terms; links = links }) m
+force-enters trees new posed p limit g level point front core m q region terms links b h at block grows forces thinned none front_is =
     let w = quantifier_of q.winner in
-    let failing = force-failing trees posed p limit g level point core m s q runs h span at runs_are in
+    let who : w ≡ other b.owner = (h.game.queries (level - 1) q at).opponent b block in
     let row : Row = record { level = level; winner = w; region = region; point = values_of front; terms = terms; links = links } in
     let same = entries-stay trees new g.entries grows h.game.rows in
     let all = all_links p (entries_in new g.entries) w level in
-    let whole = force-whole trees new posed p limit g level point core m s q runs region h span at runs_are grows stands in
     let e : Entry = record { level = level; winner = w; region = tree_at new region; point = values_of point; terms = []; links = all } in
+    let whole : IsPlayed p (entries_in new g.entries ++ e ∷ []) =
+    subst (λ (k : Quantifier). IsPlayed p (entries_in new g.entries ++ linked_to_all p (entries_in new g.entries) level k (values_of point) (tree_at new region) ∷ [])) (sym who) forces.played in
     let played : IsPlayed p (entries_in new g.entries ++ record { level = level; winner = w; region = tree_at new region; point = values_of point; terms = []; links = links } ∷ []) =
-    thinned-played new p g.entries e region all links failing.0 (subst (IsSettled p) (sym same) failing.1.settled) failing.1.at.numbered (other-not w failing.0.owner failing.1.winner_is) refl thinned whole in
+    thinned-played new p g.entries e region all links b (subst (IsSettled p) (sym same) h.settled) (numbered p level b h.low block) (other-not w b.owner who) refl thinned whole in
     let forced : IsPlayed p (entries_in new g.entries ++ entry_in new row ∷ []) =
     subst (λ (ts : List ℕ). IsPlayed p (entries_in new g.entries ++ record { level = level; winner = w; region = tree_at new region; point = values_of front; terms = named new ts; links = links } ∷ [])) (sym none)
     (subst (λ (ws : List Word). IsPlayed p (entries_in new g.entries ++ record { level = level; winner = w; region = tree_at new region; point = values_of ws; terms = []; links = links } ∷ [])) (sym front_is) played) in
@@ -191,7 +203,7 @@ force-enters trees new posed p limit g level point front core m s q runs region 
       is = posed-stays trees new posed grows h.posed_in ∙ h.is;
       game = game-stays trees new p limit g m grows h.game;
       undecided = subst IsUndecided (sym same) h.undecided;
-      row_in = record { region = stands.below; terms = All-from_recursion (λ n. n < length new) terms (subst (AllByRecursion (λ n. n < length new)) (sym none) tt) };
+      row_in = record { region = forces.below; terms = All-from_recursion (λ n. n < length new) terms (subst (AllByRecursion (λ n. n < length new)) (sym none) tt) };
       played = subst (IsPlayed p) (sym (with-row new g.entries row)) forced;
     }
 

@@ -1,5 +1,5 @@
 -- The moves of a game: what each starts from, and what it leaves.
-use Rattle.std.specs.Prelude.{◌≡◌, ℕ, ◌+◌, ◌≤◌, Option, Some, None, option_to_list, List, length, slice_get}
+use Rattle.std.specs.Prelude.{◌≡◌, ℕ, ◌+◌, ◌-◌, ◌≤◌, ◌<◌, Option, Some, None, option_to_list, List, [], ◌∷◌, ◌++◌, length, slice_get}
 use Rattle.qv_words.specs.declared.word.Word.{Word}
 use Rattle.qv_words.specs.Word.{sorts_of, values_of}
 use Rattle.qv_words.specs.Tree.{Tree}
@@ -8,15 +8,19 @@ use Rattle.qv_words.specs.Choice.{IsTrueAt}
 use Rattle.qv_words.specs.Linked.{Block, Entry, last_region}
 use Rattle.qv_store.specs.declared.problem.Problem.{Problem as Posed}
 use Rattle.qv_store.specs.Problems.{problem_in, IsPosedIn}
-use Rattle.qv_entries.specs.Rows.{entries_in}
-use Rattle.qv_meter.specs.Played.{FollowsForced, IsSettled, IsUndecided}
-use Rattle.qv_meter.specs.Queries.{block_count, query_list}
+use Rattle.qv_store.specs.Nodes.{tree_at}
+use Rattle.qv_store.specs.Walks.{named}
+use Rattle.qv_entries.specs.Rows.{Row, entries_in}
+use Rattle.qv_meter.specs.Played.{FollowsForced, IsPlayed, IsSettled, IsUndecided}
+use Rattle.qv_meter.specs.Queries.{all_links, block_count, query_list}
 use Rattle.qv_meter.specs.Records.{Metering}
 use Rattle.qv_game_play_laws.specs.PlayLaws.{sorts_below}
-use Rattle.qv_game_lanes.specs.Asking.{LeavesNone}
+use Rattle.qv_game_lanes.specs.Asking.{LeavesNone as LeavesNoValues}
 use Rattle.qv_cnf.specs.Literal.{Literal}
 use Rattle.qv_circuits.specs.Adding.{lits_of}
+use Rattle.qv_game_outside.specs.Outside.{LeavesNone}
 use Rattle.qv_game_state.specs.declared.game.Game.{Game}
+use Rattle.qv_game_state.specs.declared.query.Query.{Query}
 use Rattle.qv_game_state.specs.Playing.{IsGame}
 use Rattle.qv_game_state.specs.Entering.{IsEntered}
 use Rattle.qv_game_state.specs.Spots.{BlockAt, IsOutside}
@@ -31,6 +35,27 @@ IsLed p entries level owner (Some n) point =
 abbrev pub IsLater : Problem → List Entry → Quantifier → Option ℕ → Tree → Type 0
 IsLater p entries owner None later = later ≡ last_region p owner
 IsLater p entries owner (Some n) later = (f : Entry) → slice_get entries n ≡ Some f → later ≡ f.region
+
+-- an entry without terms that is linked to all of its winner's entries at the next level
+abbrev pub linked_to_all : Problem → List Entry → ℕ → Quantifier → List ℕ → Tree → Entry
+linked_to_all p entries level winner point region =
+    record { level = level; winner = winner; region = region; point = point; terms = []; links = all_links p entries winner level }
+
+-- a region from which the player who doesn't own a level's block wins: with such an entry the game
+-- is still one that is played
+pub record IsForcedRegion (trees : List Tree) (p : Problem) (rows : List Row) (level : ℕ) (winner : Quantifier) (point : List Word) (id : ℕ) : Type 0 where
+  pub below : id < length trees
+  pub played : IsPlayed p (entries_in trees rows ++ linked_to_all p (entries_in trees rows) level winner (values_of point) (tree_at trees id) ∷ [])
+
+-- what lies outside the regions of a level's owner: by the queries of this level and the one before
+-- it leaves the owner no values
+pub record IsOutsideRegion (old new : List Tree) (g : Game) (level id : ℕ) : Type 0 where
+  pub low : 2 ≤ level
+  pub before : Query
+  pub query : Query
+  pub before_is : slice_get g.queries.items (level - 2) ≡ Some before
+  pub query_is : slice_get g.queries.items (level - 1) ≡ Some query
+  pub none : LeavesNone new (named old before.list.items) (named old query.list.items) id
 
 -- a game after a forced entry came, under this number
 pub record IsForcedIn (trees : List Tree) (p : Problem) (limit : ℕ) (old new : Game) (level : ℕ) (winner : Quantifier) (point : List Word) (number : ℕ) (m : Metering) : Type 0 where
@@ -62,4 +87,4 @@ pub record MayForce (trees : List Tree) (posed : Posed) (p : Problem) (limit : �
   pub high : level ≤ block_count p
   pub sorts : sorts_of point ≡ sorts_below p level
   pub outside : IsOutside p (entries_in trees g.entries) (values_of point) level
-  pub none : (b : Block) → BlockAt p level b → LeavesNone (query_list p (entries_in trees g.entries) (other b.owner) (level + 1)) (sorts_below p (level + 1)) point (lits_of core)
+  pub none : (b : Block) → BlockAt p level b → LeavesNoValues (query_list p (entries_in trees g.entries) (other b.owner) (level + 1)) (sorts_below p (level + 1)) point (lits_of core)

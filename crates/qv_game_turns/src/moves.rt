@@ -1,25 +1,30 @@
 //! The two moves that add an entry.
 
-ghost use Rattle.std.specs.Prelude.{◌≡◌, ◌<◌, ◌^◌, All, IfOk, IfSome, List, length, option_to_list};
-ghost use Rattle.std.specs.Prelude.{ℕ};
+ghost use Rattle.std.specs.Prelude.{◌≡◌, ◌<◌, ◌≤◌, ◌^◌, All, IfOk, IfSome, List};
+ghost use Rattle.std.specs.Prelude.{ℕ, length, option_to_list};
 ghost use Rattle.qv_words.specs.Tree.{Tree};
 ghost use Rattle.qv_words.specs.Problem.{Problem as PlainProblem, other};
 ghost use Rattle.qv_words.specs.Linked.{Block};
 ghost use Rattle.qv_store.specs.Problems.{problem_in, quantifier_of, IsPosedIn};
+ghost use Rattle.qv_store.specs.declared.problem.Problem.{Problem as Posed};
 ghost use Rattle.qv_store.specs.Stores.{AreShared, Grows};
 ghost use Rattle.qv_store.specs.Nodes.{tree_at};
 ghost use Rattle.qv_entries.specs.Rows.{entries_in, is_row_of, row_of, IsRowIn};
 ghost use Rattle.qv_meter.specs.Queries.{all_links, block_count, numbers_from};
+ghost use Rattle.qv_meter.specs.Records.{Metering};
 ghost use Rattle.qv_game_state.specs.Counts.{SameButCounts};
 ghost use Rattle.qv_game_state.specs.Faults.{IsSpentWhere};
 ghost use Rattle.qv_game_state.specs.Entering.{IsEntered};
+ghost use Rattle.qv_game_state.specs.Playing.{IsGame};
 ghost use Rattle.qv_game_state.specs.Spots.{BlockAt};
 ghost use Rattle.qv_game_links.specs.Thinning.{AreThinned, IsFormula};
-ghost use Rattle.qv_game_turns.specs.Moves.{IsForcedIn, IsLater, MayForce, MayOwn};
+ghost use Rattle.qv_game_turns.specs.Moves.{IsForcedIn, IsForcedRegion, IsLater, IsOutsideRegion};
+ghost use Rattle.qv_game_turns.specs.Moves.{MayForce, MayOwn};
 
 use qv_cnf::Lit;
 use qv_entries::{Entries, Entry};
 use qv_game_links::thin;
+use qv_game_outside::outside;
 use qv_game_regions::{fix, take};
 use qv_game_state::{Game, failed_runs, put_last};
 use qv_meter::{Meter, PlayFault};
@@ -102,8 +107,7 @@ fn links_to(alloc: Global, link: Option<u64>) -> Result<Vec<u64>, AllocError>
     Ok(links)
 }
 
-// The player who doesn't own a level's block wins from the region that fixes the bits of the point
-// that a core names.
+// The player who doesn't own a level's block wins from a region that leaves the owner no values.
 pub(crate) fn force(
     game: &mut Game,
     alloc: Global,
@@ -125,12 +129,8 @@ pub(crate) fn force(
     ensures counts { SameButCounts meter.old meter.new }
     ensures spent { IsSpentWhere result meter.new }
 {
-    let index = level as usize - 1;
-    let end = game.spans[index].end as usize;
-    let query = &game.queries[index];
-    let winner = query.winner;
-    let runs = failed_runs(alloc, &query.lane, store, &game.places[..end], point, core)?;
-    let region = fix(alloc, store, point, &runs)?;
+    let region = forced_region(game, alloc, store, level, point, core)?;
+    let winner = game.queries[level as usize - 1].winner;
     let links = links_from(alloc, game, store, level, winner, region)?;
     let entry = Entry {
         level,
@@ -141,6 +141,92 @@ pub(crate) fn force(
         links,
     };
     game.enter(alloc, store, problem, meter, entry)
+}
+
+// A region that leaves the owner of a level's block no values: all that lies outside its regions
+// there, or else the bits of the point that a core names.
+fn forced_region(
+    game: &Game,
+    alloc: Global,
+    store: &mut Store,
+    level: u64,
+    point: &[Word],
+    core: &[Lit],
+) -> Result<Id, NoMemory>
+    requires { (posed : Posed) × (p : PlainProblem) × (limit : ℕ) × (m : Metering)
+        × MayForce store.old posed p limit game.now level point.now core.now m }
+    ensures grows { Grows store.old store.new }
+    ensures forced { IfOk result (λ region. (posed : Posed) (p : PlainProblem) (limit : ℕ)
+        (m : Metering) → MayForce store.old posed p limit game.now level point.now core.now m →
+        (b : Block) → BlockAt p level b → IsForcedRegion store.new p game.now.entries level
+        (other b.owner) point.now region) }
+{
+    if let Some(region) = outside_of(game, alloc, store, level)? {
+        return Ok(region);
+    }
+    fix_failed(game, alloc, store, level, point, core)
+}
+
+// All that lies outside the regions of a level's owner there, where this has the newest one of the
+// level and it is found that no values are left to it.
+fn outside_of(
+    game: &Game,
+    alloc: Global,
+    store: &mut Store,
+    level: u64,
+) -> Result<Option<Id>, NoMemory>
+    requires { (p : PlainProblem) × (limit : ℕ) × (m : Metering)
+        × IsGame store.old p limit game.now m × (1 ≤ level) × (level ≤ block_count p) }
+    ensures grows { Grows store.old store.new }
+    ensures none { IfOk result (λ found. IfSome found
+        (IsOutsideRegion store.old store.new game.now level)) }
+{
+    if level < 2 {
+        return Ok(None);
+    }
+    let index = level as usize - 1;
+    let before = &game.queries[index - 1];
+    if !is_newest(&game.entries, level, before.winner) {
+        return Ok(None);
+    }
+    let query = &game.queries[index];
+    outside(alloc, store, &before.list, &query.list)
+}
+
+// Whether the newest entry of a level is this winner's.
+fn is_newest(entries: &Entries, level: u64, winner: Quant) -> bool {
+    let mut newest = false;
+    for number in 0..entries.len() {
+        let entry = entries.entry(number);
+        if entry.level == level {
+            newest = entry.winner == winner;
+        }
+    }
+    newest
+}
+
+// The region that fixes the bits of the point that a core names.
+fn fix_failed(
+    game: &Game,
+    alloc: Global,
+    store: &mut Store,
+    level: u64,
+    point: &[Word],
+    core: &[Lit],
+) -> Result<Id, NoMemory>
+    requires { (posed : Posed) × (p : PlainProblem) × (limit : ℕ) × (m : Metering)
+        × MayForce store.old posed p limit game.now level point.now core.now m }
+    ensures grows { Grows store.old store.new }
+    ensures forced { IfOk result (λ region. (posed : Posed) (p : PlainProblem) (limit : ℕ)
+        (m : Metering) → MayForce store.old posed p limit game.now level point.now core.now m →
+        (b : Block) → BlockAt p level b → IsForcedRegion store.new p game.now.entries level
+        (other b.owner) point.now region) }
+{
+    let index = level as usize - 1;
+    let end = game.spans[index].end as usize;
+    let lane = &game.queries[index].lane;
+    let runs = failed_runs(alloc, lane, store, &game.places[..end], point, core)?;
+    fix(alloc, store, point, &runs)
 }
 
 // What a forced entry of a level is linked to: at another level than the last those entries of its

@@ -188,10 +188,12 @@ start-entry = record {
   };
   block = record {
     no_terms = refl;
-    runs = [];
-    each = All-from_recursion _ [] tt;
-    apart = λ i j d h l. absurd (omega (arith, l));
-    region = refl;
+    form = inl (record {
+      runs = [];
+      each = All-from_recursion _ [] tt;
+      apart = λ i j d h l. absurd (omega (arith, l));
+      region = refl;
+    });
     closed = closed;
   };
 }

@@ -92,10 +92,12 @@ low-entry = record {
   };
   block = record {
     no_terms = refl;
-    runs = run ∷ [];
-    each = All-from_recursion (IsRun p low (negation p.matrix ∷ [])) (run ∷ []) (record { below = omega arith; ordered = omega arith; within = omega arith; occurs = (negation p.matrix, 0, refl, refl) }, tt);
-    apart = λ i j d h l. absurd (omega (arith, h, l));
-    region = refl;
+    form = inl (record {
+      runs = run ∷ [];
+      each = All-from_recursion (IsRun p low (negation p.matrix ∷ [])) (run ∷ []) (record { below = omega arith; ordered = omega arith; within = omega arith; occurs = (negation p.matrix, 0, refl, refl) }, tt);
+      apart = λ i j d h l. absurd (omega (arith, h, l));
+      region = refl;
+    });
     closed = closed;
   };
 }

@@ -248,10 +248,12 @@ three-entry = record {
   };
   block = record {
     no_terms = refl;
-    runs = run ∷ [];
-    each = All-from_recursion (IsRun p three-wins (p.matrix ∷ [])) (run ∷ []) (record { below = omega arith; ordered = omega arith; within = omega arith; occurs = (p.matrix, 0, refl, refl) }, tt);
-    apart = λ i j d h l. absurd (omega (arith, h, l));
-    region = refl;
+    form = inl (record {
+      runs = run ∷ [];
+      each = All-from_recursion (IsRun p three-wins (p.matrix ∷ [])) (run ∷ []) (record { below = omega arith; ordered = omega arith; within = omega arith; occurs = (p.matrix, 0, refl, refl) }, tt);
+      apart = λ i j d h l. absurd (omega (arith, h, l));
+      region = refl;
+    });
     closed = no-y-above;
   };
 }

@@ -91,10 +91,12 @@ inner-entry = record {
   };
   block = record {
     no_terms = refl;
-    runs = run ∷ [];
-    each = All-from_recursion (IsRun p inner (p.matrix ∷ [])) (run ∷ []) (record { below = omega arith; ordered = omega arith; within = omega arith; occurs = (p.matrix, 0, refl, refl) }, tt);
-    apart = λ i j d h l. absurd (omega (arith, h, l));
-    region = refl;
+    form = inl (record {
+      runs = run ∷ [];
+      each = All-from_recursion (IsRun p inner (p.matrix ∷ [])) (run ∷ []) (record { below = omega arith; ordered = omega arith; within = omega arith; occurs = (p.matrix, 0, refl, refl) }, tt);
+      apart = λ i j d h l. absurd (omega (arith, h, l));
+      region = refl;
+    });
     closed = no-z-helps;
   };
 }
@@ -131,10 +133,12 @@ outer-entry = record {
   };
   block = record {
     no_terms = refl;
-    runs = [];
-    each = All-from_recursion _ [] tt;
-    apart = λ i j d h l. absurd (omega (arith, l));
-    region = refl;
+    form = inl (record {
+      runs = [];
+      each = All-from_recursion _ [] tt;
+      apart = λ i j d h l. absurd (omega (arith, l));
+      region = refl;
+    });
     closed = λ point values hp hv h. (0, refl);
   };
 }

@@ -76,10 +76,12 @@ entry = record {
   };
   block = record {
     no_terms = refl;
-    runs = [];
-    each = All-from_recursion _ [] tt;
-    apart = λ i j d h l. absurd (omega (arith, h, l));
-    region = refl;
+    form = inl (record {
+      runs = [];
+      each = All-from_recursion _ [] tt;
+      apart = λ i j d h l. absurd (omega (arith, h, l));
+      region = refl;
+    });
     closed = λ point values h v t. (0, negated (point ++ values));
   };
 }

@@ -2,7 +2,8 @@
 
 ghost use Rattle.std.specs.Prelude.{◌≡◌, ◌<◌, ◌≤◌, ◌↔◌, ◌⊎◌, ◌+◌, ℕ, List, [], ◌∷◌, ◌++◌, drop, map};
 ghost use Rattle.std.specs.Prelude.{IsTrue, OnOk, OnErr, Err, None, false, length};
-ghost use Rattle.qv_cnf.specs.Listing.{Numbered, Rises, without};
+ghost use Rattle.std.specs.Option.{option_copied};
+ghost use Rattle.qv_cnf.specs.Listing.{Numbered, Rises, clause_named, without};
 ghost use Rattle.qv_cnf.specs.Literal.{Literal, negated};
 ghost use Rattle.qv_cnf.specs.LratLine.{Addition, line_of};
 ghost use Rattle.qv_cnf.specs.Rat.{grouped, judged_addition, judged_groups, judged_rat};
@@ -13,6 +14,7 @@ ghost use Rattle.qv_rup.specs.Calls.{AllMeetRup, Call, Leads, originals, Origina
 ghost use Rattle.qv_rup.specs.Grouping.{AreGroups, group_of};
 ghost use Rattle.qv_rup.specs.Indexing.{IsIndex, KeepsIndex};
 ghost use Rattle.qv_rup.specs.Judged.{IsJudged};
+ghost use Rattle.qv_rup.specs.Shelving.{picked};
 
 use super::faults::{OriginalFault, StepFault};
 use super::groups::{Groups, Pivot, are_all_grouped, go_along};
@@ -127,6 +129,20 @@ impl Checker {
     {
         rup_is_true();
         self.refuted
+    }
+
+    /// Ids that were given, rising: the live clauses are those of them that have one.
+    pub fn ids(&self) -> &[u64]
+        ensures { picked result.now self.now.live ≡ self.now.live }
+    {
+        self.clauses.ids()
+    }
+
+    /// The clause of that id, if it is live.
+    pub fn clause(&self, id: u64) -> Option<&[Lit]>
+        ensures { option_copied result ≡ clause_named id self.now.live }
+    {
+        self.clauses.get(id)
     }
 
     fn addition(&mut self, id: u64, lits: &[Lit], hints: &[i64]) -> Result<(), StepFault>

@@ -102,6 +102,14 @@ impl Shelf {
         self.list.get(id)
     }
 
+    /// The ids that were given, but for some of clauses that were taken away.
+    pub(crate) fn ids(&self) -> &[u64]
+        ensures { picked result.now self.now.live ≡ self.now.live }
+    {
+        let _listing = self.list.may_add(0);
+        &self.ids
+    }
+
     /// An index of the live clauses.
     pub(crate) fn index(&self) -> Result<Index, AllocError>
         ensures { IfOk result (λ index. IsIndex index.lists.items self.now.live) }

@@ -6,6 +6,7 @@ use Rattle.qv_words.specs.declared.op.Op.TheVariants.{And, Or, Equal, BvNot, BvA
 use Rattle.qv_words.specs.Tree.{Tree, Variable, Literal}
 use Rattle.qv_words.specs.Prenex.{binary, negation, ite}
 use Rattle.qv_words.specs.Inverse.{unary, number, inverse_term}
+use Rattle.qv_words.specs.Problem.{conjunction}
 use Rattle.qv_words.specs.Choice.{candidates}
 
 abbrev a : Tree
@@ -92,3 +93,75 @@ passed-over = refl
 behind-the-block : alone (binary Equal x y) ≡ y ∷ []
 unfolding alone
 behind-the-block = refl
+
+-- the gate at the place 2, over the places 0 and 1, of a block that has the places 2 and 3
+abbrev p : Tree
+p = Variable 0 Bool
+
+abbrev q : Tree
+q = Variable 1 Bool
+
+abbrev gate : Tree
+gate = Variable 2 Bool
+
+abbrev reader : Tree
+reader = Variable 3 Bool
+
+abbrev or : Tree → Tree → Tree
+or t u = binary Or t u
+
+abbrev truths : List Tree
+truths = Literal Bool 1 ∷ Literal Bool 0 ∷ []
+
+abbrev no : Tree
+no = negation (Literal Bool 1)
+
+unfoldable of_gate : List Tree → List Tree
+unfolding candidates
+of_gate clauses = candidates 2 4 (conjunction clauses) 2
+
+-- a gate is defined by the clauses with its negation
+and-gate : of_gate (or gate (or (negation p) (negation q)) ∷ or (negation gate) p ∷ or (negation gate) q ∷ []) ≡ binary And (or no p) (or no q) ∷ truths
+unfolding of_gate
+and-gate = refl
+
+or-gate : of_gate (or (or p (negation gate)) q ∷ or gate (negation p) ∷ or gate (negation q) ∷ []) ≡ or (or p no) q ∷ truths
+unfolding of_gate
+or-gate = refl
+
+xor-gate : of_gate (or (negation gate) (or p q) ∷ or (negation gate) (or (negation p) (negation q)) ∷ or gate (or p (negation q)) ∷ or gate (or (negation p) q) ∷ [])
+    ≡ binary And (or no (or p q)) (or no (or (negation p) (negation q))) ∷ truths
+unfolding of_gate
+xor-gate = refl
+
+equal-gate : of_gate (or (negation gate) p ∷ or gate (negation p) ∷ []) ≡ or no p ∷ truths
+unfolding of_gate
+equal-gate = refl
+
+false-gate : of_gate (negation gate ∷ []) ≡ no ∷ truths
+unfolding of_gate
+false-gate = refl
+
+-- a clause of a reader says nothing of it, nor does one without its negation, nor a disjunction that
+-- is no conjunct
+with-reader : of_gate (or (negation gate) p ∷ or (negation gate) reader ∷ or gate (negation reader) ∷ []) ≡ or no p ∷ truths
+unfolding of_gate
+with-reader = refl
+
+reader-alone : of_gate (or (or (negation gate) p) reader ∷ or gate p ∷ []) ≡ truths
+unfolding of_gate
+reader-alone = refl
+
+below-not : of_gate (negation (or (negation gate) p) ∷ []) ≡ truths
+unfolding of_gate
+below-not = refl
+
+-- conjuncts stand at any depth, each once, in the order of the region's subtrees
+at-depth : of_gate (binary And (or (negation gate) p) (binary And (or (negation gate) q) (or (negation gate) p)) ∷ []) ≡ binary And (or no p) (or no q) ∷ truths
+unfolding of_gate
+at-depth = refl
+
+-- a word has none
+no-truth : candidates 1 2 (binary Or (negation (binary Equal x (n 1))) (binary Equal x (n 1))) 1 ≡ n 1 ∷ []
+unfolding candidates
+no-truth = refl

@@ -1,5 +1,5 @@
 -- With the chosen terms put in, a region stays true at its point.
-use Rattle.std.proofs.Common.{◌≡◌, ℕ, zero, suc, ◌+◌, ◌-◌, ◌≤◌, ◌<◌, ◌==◌, ◌&&◌, ◌||◌, ◌⊎◌, nat_le, nat_lt, arith, inl, inr, Bool, true, false, cond, not, Option, Some, None, List, [], ◌∷◌, ◌++◌, length, filter, refl, sym, ap, ◌∙◌, subst, slice_get}
+use Rattle.std.proofs.Common.{◌≡◌, ℕ, zero, suc, ◌+◌, ◌-◌, ◌≤◌, ◌<◌, ◌==◌, ◌&&◌, ◌||◌, ◌⊎◌, nat_le, nat_lt, arith, inl, inr, Bool, true, false, cond, not, Option, Some, None, List, [], ◌∷◌, ◌++◌, length, map, filter, refl, sym, ap, ◌∙◌, subst, slice_get}
 use Rattle.std.specs.Prelude.{IfSome, IsSomeAnd, MatchOption, unwrap_or, option_map, option_and_then}
 use Rattle.std.specs.List.{AllByRecursion, list_any, flat_map}
 use Rattle.std.specs.Option.{option_to_list}
@@ -9,14 +9,17 @@ use Rattle.std.proofs.lemmas.List.Elements.{recursion_from_All, All-from_recursi
 use Rattle.qv_words.specs.declared.sort.Sort.{Sort}
 use Rattle.qv_words.specs.declared.sort.Sort.TheVariants.{Bits, Bool as BoolSort}
 use Rattle.qv_words.specs.declared.op.Op.{Op}
+use Rattle.qv_words.specs.declared.op.Op.TheVariants.{And}
 use Rattle.qv_words.specs.Tree.{Tree, Trees, Constant, Variable, Literal, Apply, ForAll, Exists, Nil, Cons, tree_sort, tree_sorts, IsQuantifierFree, AreQuantifierFree}
 use Rattle.qv_words.specs.Sorted.{no_levels, with_level, free_levels, free_levels_of_all}
 use Rattle.qv_words.specs.Meaning.{Means}
 use Rattle.qv_words.specs.Replacement.{replaced, replaced_each}
-use Rattle.qv_words.specs.Clauses.{nodes}
-use Rattle.qv_words.specs.Prenex.{is_bool}
+use Rattle.qv_words.specs.Clauses.{is_among, nodes}
+use Rattle.qv_words.specs.Prenex.{binary, is_bool}
+use Rattle.qv_words.specs.Problem.{conjunction_with}
+use Rattle.qv_words.specs.Passes.{truth_literal}
 use Rattle.qv_words.specs.Inverse.{inverse_term}
-use Rattle.qv_words.specs.Choice.{occurrences, is_in, is_below_ite, literal_value, put_in_row, next_target, descend, targets_around, is_comparison, is_equation, targets, candidates_down, candidates_of_sides, candidates_of, is_outside, candidates, with_term, IsTrueAt, IsChosen, AreChosen}
+use Rattle.qv_words.specs.Choice.{occurrences, is_in, is_below_ite, literal_value, put_in_row, next_target, descend, targets_around, is_comparison, is_equation, targets, candidates_down, candidates_of_sides, candidates_of, is_outside, is_and, joined, is_implication, implications, together, definitions, candidates, with_term, IsTrueAt, IsChosen, AreChosen}
 use Rattle.qv_words.specs.Linked.{terms_from, with_terms}
 use Rattle.qv_words.specs.ChoiceLaws.{HasSortAt, HasSortsFrom, ChosenTermsStandOutside, ChosenTermsKeepTruth, ChosenBlocksKeepTruth, OneChoice}
 use Rattle.qv_words.proofs.Leaves.{front, back, both}
@@ -121,6 +124,26 @@ of-free x (Apply o (Cons a (Cons b (Cons c rest)))) h = tt
 nodes-free : (region : Tree) → IsQuantifierFree region → Free (nodes (region ∷ []))
 nodes-free region h = let new = tree-new [] region h in subst Free (sym new.1) new.2
 
+-- so have definitions
+conjunction-free : (t : Tree) (ts : List Tree) → IsQuantifierFree t → Free ts → IsQuantifierFree (conjunction_with t ts)
+conjunction-free t [] h k = h
+conjunction-free t (u ∷ us) h k = conjunction-free (binary And t u) us (h, (k.0, tt)) k.1
+
+together-free : (ts : List Tree) → Free ts → Free (together ts)
+together-free [] h = tt
+together-free (t ∷ ts) h = (conjunction-free t ts h.0 h.1, tt)
+
+with-free : (x : ℕ) (u : Tree) (ts : List Tree) → IsQuantifierFree u → Free ts → Free (map (with_term x u) ts)
+with-free x u [] g h = tt
+with-free x u (t ∷ ts) g h = (replaced-free (with_level no_levels x u) t (level-free IsQuantifierFree no_levels x u (λ l. tt) g) h.0, with-free x u ts g h.1)
+
+definitions-free : (first end : ℕ) (region : Tree) (x : ℕ) → IsQuantifierFree region → Free (definitions first end region x)
+definitions-free first end region x h =
+    let says : Tree → Bool = λ c. is_implication first end x c && is_among (joined is_and region) c in
+    let all : List Tree = nodes (region ∷ []) in
+    let free = recursion_from_All IsQuantifierFree (filter says all) (All-filter says IsQuantifierFree all (All-from_recursion IsQuantifierFree all (nodes-free region h))) in
+    together-free (map (with_term x (truth_literal true)) (implications first end region x)) (with-free x (truth_literal true) (filter says all) tt free)
+
 -- a term without quantifiers and without places of the block
 abbrev StandsOutside : ℕ → ℕ → Tree → Type 0
 StandsOutside first end t = IsQuantifierFree t × (is_outside first end t ≡ true)
@@ -128,8 +151,10 @@ StandsOutside first end t = IsQuantifierFree t × (is_outside first end t ≡ tr
 candidates-outside : (first end : ℕ) (region : Tree) (x : ℕ) → IsQuantifierFree region → AllByRecursion (StandsOutside first end) (candidates first end region x)
 unfolding candidates
 candidates-outside first end region x h =
-    let found : List Tree = flat_map (candidates_of x) (nodes (region ∷ [])) in
-    let free = All-from_recursion IsQuantifierFree found (all-flat (candidates_of x) (nodes (region ∷ [])) (of-free x) (nodes-free region h)) in
+    let literal : List Tree = flat_map (candidates_of x) (nodes (region ∷ [])) in
+    let found : List Tree = definitions first end region x ++ literal in
+    let free = All-from_recursion IsQuantifierFree found
+    (both IsQuantifierFree (definitions first end region x) literal (definitions-free first end region x h) (all-flat (candidates_of x) (nodes (region ∷ [])) (of-free x) (nodes-free region h))) in
     let kept : List Tree = filter (is_outside first end) found in
     all-both IsQuantifierFree (λ t. is_outside first end t ≡ true) kept
     (recursion_from_All IsQuantifierFree kept (All-filter (is_outside first end) IsQuantifierFree found free))

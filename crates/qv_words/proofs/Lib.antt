@@ -50,6 +50,7 @@ mod SectionsExample
 mod PassesExample
 mod RowsExample
 mod CandidatesExample
+pub mod ComplementExample
 mod LinkedExample
 mod NoEntryExample
 mod DrawnExample

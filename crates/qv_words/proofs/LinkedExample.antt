@@ -1,5 +1,5 @@
 -- For all x there is a y that is (bvnot x): two entries of the existential player, and what is drawn from them.
-use Rattle.std.proofs.Common.{◌≡◌, ℕ, ◌-◌, ◌==◌, ◌<◌, Some, None, Option, List, [], ◌∷◌, refl, sym, ap, subst, inl, inr, slice_get, arith}
+use Rattle.std.proofs.Common.{◌≡◌, ℕ, ◌-◌, ◌==◌, ◌<◌, Some, None, Option, List, [], ◌∷◌, refl, sym, ap, subst, inl, slice_get, arith}
 use Rattle.std.specs.Prelude.{IsSomeAnd}
 use Rattle.std.proofs.lemmas.List.Elements.{All-from_recursion}
 use Rattle.qv_words.specs.declared.sort.Sort.TheVariants.{Bits, Bool as BoolSort}
@@ -88,10 +88,7 @@ high-entry = record {
   };
   block = record {
     no_terms = refl;
-    runs = [];
-    each = All-from_recursion _ [] tt;
-    apart = λ i j d h l. absurd (omega (arith, l));
-    region = refl;
+    form = inl (record { runs = []; each = All-from_recursion _ [] tt; apart = λ i j d h l. absurd (omega (arith, l)); region = refl });
     closed = λ point values hp hv ht. (0, refl);
   };
 }

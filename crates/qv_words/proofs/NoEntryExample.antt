@@ -1,7 +1,9 @@
 -- Entries that may not come, each for one thing that is amiss, beside one that may.
 use Rattle.std.proofs.Common.{◌≡◌, ℕ, zero, suc, ◌≤◌, ◌<◌, ◌⊎◌, inl, inr, Bool, true, false, Some, None, Option, List, [], ◌∷◌, map, unwrap_or, refl, sym, ap, ◌∙◌, subst, slice_get, arith}
 use Rattle.std.specs.Prelude.{IfSome, option_map, AllPairs}
+use Rattle.std.specs.List.{AllByRecursion}
 use Rattle.std.proofs.lemmas.Bool.{false≢true}
+use Rattle.std.proofs.lemmas.List.Elements.{recursion_from_All}
 use Rattle.std.proofs.lemmas.Option.{same_Some}
 use Rattle.qv_words.specs.declared.sort.Sort.{Sort}
 use Rattle.qv_words.specs.declared.sort.Sort.TheVariants.{Bits, Bool as BoolSort}
@@ -13,7 +15,7 @@ use Rattle.qv_words.specs.Inverse.{unary, number}
 use Rattle.qv_words.specs.Sort.{width_of}
 use Rattle.qv_words.specs.Choice.{is_in}
 use Rattle.qv_words.specs.Passes.{rewritten, rules_in_order}
-use Rattle.qv_words.specs.Linked.{Entry, IsEntry, Run, IsRun, AreApart, equation_of, fixing}
+use Rattle.qv_words.specs.Linked.{Entry, IsComplement, IsEntry, IsRival, Run, IsRun, AreApart, equation_of, fixing}
 
 -- for all x there is a y that is (bvnot x)
 abbrev x : Tree
@@ -183,6 +185,15 @@ not-occurring h = nowhere h.occurs.1 h.occurs.0 h.occurs.2 h.occurs.3
     nowhere zero t h i = let e : r.matrix ≡ t = same_Some r.matrix t h in false≢true (subst (λ (u : Tree). is_in 1 u ≡ true) (sym e) i)
     nowhere (suc k) t h i = none-some t (sym h)
 
+-- without earlier entries there is nothing to lie outside of
+no-rival : (e : Entry) → IsComplement [] e → ⊥
+no-rival e c = none c.numbers c.some (recursion_from_All (IsRival [] e) c.numbers c.each)
+  where
+    none : (ns : List ℕ) → (ns ≡ [] → ⊥) → AllByRecursion (IsRival [] e) ns → ⊥
+    none [] some each = some refl
+    none (zero ∷ ns) some each = each.0
+    none (suc n ∷ ns) some each = each.0
+
 -- a region that is no conjunction of equations
 abbrev is_comparison : Tree → Bool
 is_comparison (Apply BvUlt args) = true
@@ -202,7 +213,17 @@ equations-only e (a ∷ []) = of-sort (unwrap_or (option_map (λ place. place.so
 equations-only e (a ∷ b ∷ runs) = not-compared (equation_of r e.point a) (equation_of r e.point b) (map (equation_of r e.point) runs)
 
 no-equation : IsEntry r [] (fixed (binary BvUlt x (number 4 8))) → ⊥
-no-equation e = false≢true (subst (λ (b : Bool). b ≡ true) (equations-only (fixed (binary BvUlt x (number 4 8))) e.block.runs) (subst (λ (t : Tree). is_comparison t ≡ true) e.block.region refl))
+no-equation e = elim e.block.form [
+  | inl c ↦ false≢true (subst (λ (b : Bool). b ≡ true) (equations-only (fixed (binary BvUlt x (number 4 8))) c.runs) (subst (λ (t : Tree). is_comparison t ≡ true) c.region refl))
+  | inr o ↦ no-rival (fixed (binary BvUlt x (number 4 8))) o
+]
+
+-- nor what lies outside an entry of the other player at the same level
+same-winner : IsRival (fixed yes ∷ []) (fixed yes) 0 → ⊥
+same-winner h = let same : ◌≡◌ {A = Quantifier} Existential Universal = h.0 in absurd cc
+
+level-before : IsRival (record { level = 1; winner = Universal; region = yes; point = []; terms = []; links = [] } ∷ []) (fixed yes) 0 → ⊥
+level-before h = let same : 1 ≡ 2 = h.1 in omega (arith, same)
 
 -- a region that fixes one bit twice
 bit_three : Tree
@@ -260,4 +281,7 @@ none-twice (a ∷ b ∷ c ∷ runs) apart e = false≢true (subst (λ (t : Tree)
 
 twice-fixed : IsEntry r [] (fixed (binary And bit_three bit_three)) → ⊥
 unfolding bit_three
-twice-fixed e = none-twice e.block.runs e.block.apart e.block.region
+twice-fixed e = elim e.block.form [
+  | inl c ↦ none-twice c.runs c.apart c.region
+  | inr o ↦ no-rival (fixed (binary And bit_three bit_three)) o
+]

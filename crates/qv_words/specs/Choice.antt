@@ -1,18 +1,21 @@
--- The choice of terms for a block: candidates from the region's literals by inverse terms.
-use Rattle.std.specs.Prelude.{◌≡◌, ℕ, zero, suc, ◌+◌, ◌-◌, ◌^◌, ◌==◌, nat_le, nat_lt, Bool, true, false, not, ◌&&◌, ◌||◌, ◌⊎◌, if◌then◌else◌, Option, Some, None, option_map, option_and_then, IsSomeAnd, List, [], ◌∷◌, ◌++◌, filter, All, slice_get}
-use Rattle.std.specs.List.{list_any, flat_map}
+-- The choice of terms for a block: candidates from the region's clauses, and from its literals by
+-- inverse terms.
+use Rattle.std.specs.Prelude.{◌≡◌, ℕ, zero, suc, ◌+◌, ◌-◌, ◌^◌, ◌==◌, nat_le, nat_lt, Bool, true, false, not, ◌&&◌, ◌||◌, ◌⊎◌, if◌then◌else◌, Option, Some, None, option_map, option_and_then, IsSomeAnd, List, [], ◌∷◌, ◌++◌, map, filter, All, slice_get}
+use Rattle.std.specs.List.{list_any, list_all, flat_map}
 use Rattle.std.specs.Option.{option_to_list}
 use Rattle.qv_words.specs.declared.sort.Sort.{Sort}
 use Rattle.qv_words.specs.declared.sort.Sort.TheVariants.{Bits}
 use Rattle.qv_words.specs.declared.sort.Sort.TheVariants.{Bool as BoolSort}
 use Rattle.qv_words.specs.declared.op.Op.{Op}
-use Rattle.qv_words.specs.declared.op.Op.TheVariants.{Equal, Ite, BvAdd, BvSub, BvUlt, BvUle, BvUgt, BvUge, BvSlt, BvSle, BvSgt, BvSge}
+use Rattle.qv_words.specs.declared.op.Op.TheVariants.{And, Or, Equal, Ite, BvAdd, BvSub, BvUlt, BvUle, BvUgt, BvUge, BvSlt, BvSle, BvSgt, BvSge}
 use Rattle.qv_words.specs.Tree.{Tree, Trees, Constant, Variable, Literal, Apply, ForAll, Exists, Nil, Cons, tree_sort, tree_sorts}
 use Rattle.qv_words.specs.Sorted.{no_levels, with_level, free_levels}
 use Rattle.qv_words.specs.Meaning.{Means}
 use Rattle.qv_words.specs.Replacement.{replaced}
-use Rattle.qv_words.specs.Prenex.{binary, is_bool}
-use Rattle.qv_words.specs.Clauses.{nodes}
+use Rattle.qv_words.specs.Prenex.{negation, binary, is_bool}
+use Rattle.qv_words.specs.Problem.{conjunction}
+use Rattle.qv_words.specs.Equality.{tree_eq}
+use Rattle.qv_words.specs.Clauses.{is_among, nodes}
 use Rattle.qv_words.specs.Inverse.{inverse_term, number}
 use Rattle.qv_words.specs.Passes.{truth_literal}
 
@@ -114,17 +117,59 @@ candidates_of x (Variable l BoolSort) = if l == x then truth_literal true ∷ tr
 candidates_of x (Apply o (Cons a (Cons b Nil))) = candidates_of_sides x o a b
 candidates_of x _ = []
 
--- those of the region's subtrees in post-order, but for those with a place of this block, which has
--- the places from first to end - 1
+-- no place of this block stands in it, which has the places from first to end - 1
 abbrev pub is_outside : ℕ → ℕ → Tree → Bool
 is_outside first end t = not (list_any (λ leaf. nat_le first leaf.0 && nat_lt leaf.0 end) (free_levels t))
-
-unfoldable pub candidates : ℕ → ℕ → Tree → ℕ → List Tree
-candidates first end region x = filter (is_outside first end) (flat_map (candidates_of x) (nodes (region ∷ [])))
 
 -- a region with a term for one variable
 abbrev pub with_term : ℕ → Tree → Tree → Tree
 with_term x t region = replaced (with_level no_levels x t) region
+
+abbrev pub is_and : Op → Bool
+is_and And = true
+is_and _ = false
+
+abbrev pub is_or : Op → Bool
+is_or Or = true
+is_or _ = false
+
+-- what an operator joins in a tree: its conjuncts, or its disjuncts
+abbrev pub joined : (Op → Bool) → Tree → List Tree
+joined joins (Apply o (Cons a (Cons b Nil))) =
+    if joins o then joined joins a ++ joined joins b else Apply o (Cons a (Cons b Nil)) ∷ []
+joined joins t = t ∷ []
+
+abbrev pub opposite : ℕ → Tree
+opposite x = negation (Variable x BoolSort)
+
+-- neither x stands in it nor a place of the block
+abbrev pub is_apart : ℕ → ℕ → ℕ → Tree → Bool
+is_apart first end x d = is_outside first end d && not (is_in x d)
+
+-- a clause that says what x implies: a disjunct is x's negation, and all others are apart
+abbrev pub is_implication : ℕ → ℕ → ℕ → Tree → Bool
+is_implication first end x c =
+    is_among (joined is_or c) (opposite x) && list_all (λ d. tree_eq d (opposite x) || is_apart first end x d) (joined is_or c)
+
+-- those among a region's conjuncts
+abbrev pub implications : ℕ → ℕ → Tree → ℕ → List Tree
+implications first end region x =
+    filter (λ c. is_implication first end x c && is_among (joined is_and region) c) (nodes (region ∷ []))
+
+-- the conjunction of some formulas, where there are any
+abbrev pub together : List Tree → List Tree
+together [] = []
+together (t ∷ ts) = conjunction (t ∷ ts) ∷ []
+
+-- a truth value is defined by all that it implies
+abbrev pub definitions : ℕ → ℕ → Tree → ℕ → List Tree
+definitions first end region x = together (map (with_term x (truth_literal true)) (implications first end region x))
+
+-- its definition, and those of the region's subtrees in post-order; but for those with a place of
+-- the block
+unfoldable pub candidates : ℕ → ℕ → Tree → ℕ → List Tree
+candidates first end region x =
+    filter (is_outside first end) (definitions first end region x ++ flat_map (candidates_of x) (nodes (region ∷ [])))
 
 -- at the point the region is true
 abbrev pub IsTrueAt : List ℕ → Tree → Type 0

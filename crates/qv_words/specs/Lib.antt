@@ -22,6 +22,7 @@ pub mod Skolem
 pub mod Expansion
 pub mod Passes
 pub mod Rules
+pub mod Sums
 pub mod Inverse
 pub mod Choice
 pub mod Linked

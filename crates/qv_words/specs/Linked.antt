@@ -1,5 +1,5 @@
 -- Linked lists of entries: what play of the level game leaves behind.
-use Rattle.std.specs.Prelude.{◌≡◌, ℕ, zero, suc, ◌+◌, ◌-◌, ◌/◌, ◌%◌, ◌^◌, ◌<◌, ◌≤◌, ◌==◌, nat_lt, Bool, true, false, ◌&&◌, ◌⊎◌, if◌then◌else◌, Option, Some, None, option_map, unwrap_or, IsSome, IsSomeAnd, MatchBool, List, [], ◌∷◌, ◌++◌, map, filter, length, take, sum, slice_get, All, AllPairs}
+use Rattle.std.specs.Prelude.{◌≡◌, ◌≢◌, ℕ, zero, suc, ◌+◌, ◌-◌, ◌/◌, ◌%◌, ◌^◌, ◌<◌, ◌≤◌, ◌==◌, nat_lt, Bool, true, false, ◌&&◌, ◌⊎◌, if◌then◌else◌, Option, Some, None, option_map, unwrap_or, IsSome, IsSomeAnd, MatchBool, List, [], ◌∷◌, ◌++◌, map, filter, length, take, sum, slice_get, All, AllPairs}
 use Rattle.std.specs.List.{AllZip}
 use Rattle.qv_words.specs.declared.sort.Sort.{Sort}
 use Rattle.qv_words.specs.declared.sort.Sort.TheVariants.{Bits}
@@ -11,7 +11,7 @@ use Rattle.qv_words.specs.Sorted.{HasValues, free_levels}
 use Rattle.qv_words.specs.Meaning.{Means}
 use Rattle.qv_words.specs.Replacement.{replaced}
 use Rattle.qv_words.specs.Prenex.{negation, binary, ite}
-use Rattle.qv_words.specs.Problem.{Problem, Place, Quantifier, Existential, Universal, conjunction}
+use Rattle.qv_words.specs.Problem.{Problem, Place, Quantifier, Existential, Universal, conjunction, other}
 use Rattle.qv_words.specs.Clauses.{nodes}
 use Rattle.qv_words.specs.Passes.{IsSimple}
 use Rattle.qv_words.specs.Choice.{AreChosen, IsTrueAt, is_in}
@@ -152,14 +152,34 @@ pub record IsRun (p : Problem) (e : Entry) (regions : List Tree) (r : Run) : Typ
 abbrev pub AreApart : Run → Run → Type 0
 AreApart r s = (r.place ≡ s.place) → (r.high < s.low) ⊎ (s.high < r.low)
 
--- where the winner doesn't own the block: the region fixes bits of the point, and from none of its
--- points does any value of the block lead out of all linked regions
-pub record IsForced (p : Problem) (e : Entry) (block : Block) (regions : List Tree) : Type 0 where
-  pub no_terms : e.terms ≡ []
+-- a region that fixes runs of bits as they are at the entry's point
+pub record IsCube (p : Problem) (e : Entry) (regions : List Tree) : Type 0 where
   pub runs : List Run
   pub each : All (IsRun p e regions) runs
   pub apart : AllPairs AreApart runs
   pub region : e.region ≡ conjunction (map (equation_of p e.point) runs)
+
+-- an earlier entry of the other player at the same level
+abbrev pub IsRival : List Entry → Entry → ℕ → Type 0
+IsRival earlier e n = IsSomeAnd (slice_get earlier n) (λ f. (f.winner ≡ other e.winner) × (f.level ≡ e.level))
+
+-- what lies outside the regions of the entries of these numbers
+abbrev pub outside_of : List Entry → List ℕ → Tree
+outside_of earlier numbers = conjunction (map (λ f. negation f.region) (entries_named earlier numbers))
+
+-- a region that is what lies outside some regions of the other player at the same level
+pub record IsComplement (earlier : List Entry) (e : Entry) : Type 0 where
+  pub numbers : List ℕ
+  pub some : numbers ≢ []
+  pub each : All (IsRival earlier e) numbers
+  pub region : e.region ≡ outside_of earlier numbers
+
+-- where the winner doesn't own the block: the region fixes bits of the point or is what lies outside
+-- the owner's regions, and from none of its points does any value of the block lead out of all
+-- linked regions
+pub record IsForced (p : Problem) (earlier : List Entry) (e : Entry) (block : Block) (regions : List Tree) : Type 0 where
+  pub no_terms : e.terms ≡ []
+  pub form : IsCube p e regions ⊎ IsComplement earlier e
   pub closed : (point values : List ℕ) → AllZip (λ v place. IsValueOf v place.sort) point (take (places_below (blocks_of p.prefix) e.level) p.prefix) → AreValues values block.sorts → IsTrueAt point e.region → (k : ℕ) × IsSomeAnd (slice_get regions k) (λ t. IsTrueAt (point ++ values) t)
 
 -- the one region that an owner's entry is linked to
@@ -172,7 +192,7 @@ abbrev pub MeetsBlock : Problem → List Entry → Entry → Block → Type 0
 MeetsBlock p earlier e block =
     MatchBool (same_quantifier e.winner block.owner)
     (LinksToOne (linked_regions p earlier e) (IsOwned p e block))
-    (IsForced p e block (linked_regions p earlier e))
+    (IsForced p earlier e block (linked_regions p earlier e))
 
 -- an entry that may come behind earlier ones
 pub record IsEntry (p : Problem) (earlier : List Entry) (e : Entry) : Type 0 where

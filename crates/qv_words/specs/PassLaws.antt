@@ -6,6 +6,7 @@ use Rattle.qv_words.specs.Sorted.{IsSorted, HasValues, constants_of, free_levels
 use Rattle.qv_words.specs.Meaning.{Means}
 use Rattle.qv_words.specs.declared.rule.Rule.{Rule}
 use Rattle.qv_words.specs.Passes.{passed, pass, passes_by, passes, IsSimple}
+use Rattle.qv_words.specs.Sums.{sum_pass}
 
 -- a sorted tree without quantifiers
 pub record IsPlain (t : Tree) : Type 0 where
@@ -30,6 +31,10 @@ PassesKeepValues = (r : Rule) (formulas : List Tree) → All IsPlain formulas �
 -- so do all ten in order
 abbrev pub AllPassesKeepValues : Type 0
 AllPassesKeepValues = (formulas : List Tree) → All IsPlain formulas → AllZip StandsFor (passes formulas) formulas
+
+-- so does the pass of sums
+abbrev pub SumsKeepValues : Type 0
+SumsKeepValues = (formulas : List Tree) → All IsPlain formulas → AllZip StandsFor (sum_pass formulas) formulas
 
 -- a formula is simple exactly where every pass leaves it as it is
 abbrev pub SimpleFormulasStay : Type 0

@@ -4,7 +4,8 @@ use Rattle.qv_cert.specs.Section.{Listing}
 use Rattle.qv_store.specs.Problems.{problem_in}
 use Rattle.qv_cert_nodes.specs.Lists.{listed_in}
 use Rattle.qv_check_lines.specs.Judging.{IsFor}
-use Rattle.qv_check.proofs.ListedLines.{for-later, leads-further, leads-along, found-along, none-found}
+use Rattle.qv_check.proofs.ListedLines.{for-later, leads-along, found-along, none-found}
+use Rattle.qv_check_lines.proofs.Judged.{comes-further, comes-here}
 use Rattle.qv_check_lines.proofs.Rewritten.{grows_none}
 use Rattle.qv_check_lines.proofs.TakenBy.{nothing-took, took-on}
 use Rattle.qv_cert.proofs.Took.{lines-on}
@@ -45,7 +46,7 @@ nodes-preserved g c =
       begun = step.begun;
       reads = step.reads;
       version = step.version ∙ before.version;
-      leads = λ task about. leads-further task first here last c.args.reader.now.given c.nodes.reader.given c.read_node.new.reader.given old between new (before.leads task about)
+      leads = λ task about. comes-further task first here last c.args.reader.now.given c.nodes.reader.given c.read_node.new.reader.given old between new (before.leads task about)
           (none-found task here last c.nodes.reader.given c.read_node.new.reader.given between new c.in_ok-next.field-0 c.in_default.not-Some
           (step.goes task (for-later (problem_in c.args.store.now c.args.problem.now) (problem_in c.nodes.store c.args.problem.now) c.args.reader.now.version c.nodes.reader.version task before.same before.version about)));
       took = lines-on g.S.Source.read_gives g.S.Source.left c.args.reader.now c.nodes.reader c.args.source.now c.nodes.source c.read_node.new.source c.read_node.new.reader.given c.read_node.new.reader.rest c.read_node.new.reader.taken before.took step.took;
@@ -62,6 +63,13 @@ pub returns-in-Some-clause-took : goal.returns-in-Some-clause-took
 returns-in-Some-clause-took g c =
     lines-on g.S.Source.read_gives g.S.Source.left c.args.reader.now c.nodes.reader c.args.source.now c.nodes.source c.read_node.new.source c.read_node.new.reader.given c.read_node.new.reader.rest c.read_node.new.reader.taken c.nodes.invariant.took c.in_ok-next.ensures.took
 
+pub returns-in_err-next-clause-err : goal.returns-in_err-next-clause-err
+returns-in_err-next-clause-err g c =
+    let p = err_from_is_err_and c.from_residual.result c.from_residual.ensures.1 in
+    rw (p.1, p.2) (λ task about. (c.nodes.invariant.leads task about).judged c.read_node.new.reader.given (to_give c.read_node.new.reader.rest (g.S.Source.left c.read_node.new.source)) c.in_err-next.field-0.0
+    (c.in_err-next.ensures.err task
+    (for-later (problem_in c.args.store.now c.args.problem.now) (problem_in c.nodes.store c.args.problem.now) c.args.reader.now.version c.nodes.reader.version task c.nodes.invariant.same c.nodes.invariant.version about)))
+
 pub nodes-init : goal.nodes-init
 nodes-init g c = record {
   kept = c.requires.kept;
@@ -72,7 +80,7 @@ nodes-init g c = record {
   begun = c.requires.begun;
   reads = c.requires.reads;
   version = refl;
-  leads = λ task about now left verdict h. h;
+  leads = λ task about. comes-here task (Listing c.args.answer (listed_in c.args.store.now c.args.listed.now)) c.args.reader.now.given (to_give c.args.reader.now.rest (g.S.Source.left c.args.source.now));
   took = nothing-took g.S.Source.read_gives g.S.Source.left c.args.reader.now c.args.source.now;
   telling = refl;
   count = omega arith;

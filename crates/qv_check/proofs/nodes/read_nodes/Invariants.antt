@@ -8,7 +8,7 @@ use Rattle.qv_cert.specs.Took.{TookLines}
 use Rattle.qv_cert.specs.Section.{Task, Listing}
 use Rattle.qv_cert.specs.SoFar.{IsSoFar}
 use Rattle.qv_cert_nodes.specs.Lists.{listed_in, IsListed}
-use Rattle.qv_check_lines.specs.Judging.{IsFor, LeadsTo}
+use Rattle.qv_check_lines.specs.Judging.{ComesTo, IsFor}
 use Rattle.qv_check.proofs.nodes.read_nodes.Given as goal
 
 abbrev pub invariant-nodes : goal.invariant-nodes
@@ -21,7 +21,7 @@ invariant-nodes g l = record {
   begun : 0 < l.reader.given;
   reads : l.reader.stopped ≡ None;
   version : l.reader.version ≡ l.fn.reader.version;
-  leads : (task : Task) → IsFor (problem_in l.fn.store l.problem) l.fn.reader.version task → LeadsTo task (Listing l.answer (listed_in l.fn.store l.fn.listed)) l.fn.reader.given (to_give l.fn.reader.rest (g.S.Source.left l.fn.source)) (Listing l.answer (listed_in l.store l.listed)) l.reader.given (to_give l.reader.rest (g.S.Source.left l.source));
+  leads : (task : Task) → IsFor (problem_in l.fn.store l.problem) l.fn.reader.version task → ComesTo task (Listing l.answer (listed_in l.fn.store l.fn.listed)) l.fn.reader.given (to_give l.fn.reader.rest (g.S.Source.left l.fn.source)) (Listing l.answer (listed_in l.store l.listed)) l.reader.given (to_give l.reader.rest (g.S.Source.left l.source));
   took : TookLines g.S.Source.read_gives g.S.Source.left l.fn.reader l.fn.source l.reader.given l.reader.rest l.reader.taken l.source;
   telling : TellsAsBefore (g.S.Source.left l.fn.source) (g.S.Source.left l.source);
   count : g.S.Source.faults l.fn.source ≤ g.S.Source.faults l.source;

@@ -1,3 +1,4 @@
+use Rattle.qv_cert.specs.CertReader.{to_give}
 use Rattle.qv_check_lines.proofs.TakenBy.{took-on}
 use Rattle.qv_check_lines.proofs.refutation.check_rewriting.Goals as goal
 
@@ -7,3 +8,7 @@ returns-in-Ok-clause-took g c =
 
 pub returns-in-Err-clause-took : goal.returns-in-Err-clause-took
 returns-in-Err-clause-took g c = c.in-Err.ensures.took
+
+pub returns-in-Ok-clause-verdict : goal.returns-in-Ok-clause-verdict
+returns-in-Ok-clause-verdict g c task =
+    (c.in-Ok.ensures.goes task c.args.answer).judged c.check_refutation.new.reader.given (to_give c.check_refutation.new.reader.rest (g.S.Source.left c.check_refutation.new.source)) c.check_refutation.result (c.check_refutation.ensures.verdict task)

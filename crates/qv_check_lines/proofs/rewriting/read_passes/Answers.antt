@@ -2,7 +2,9 @@ use Rattle.std.proofs.Common.{None, Some, refl, arith, ◌∙◌}
 use Rattle.std.proofs.lemmas.Result.{err_from_is_err_and}
 use Rattle.qv_store.specs.Walks.{named}
 use Rattle.qv_cert.specs.CertReader.{to_give}
+use Rattle.qv_cert.specs.Section.{Rewriting}
 use Rattle.qv_check_lines.proofs.Ended.{ends_later}
+use Rattle.qv_check_lines.proofs.Judged.{comes-here}
 use Rattle.qv_check_lines.proofs.Rewritten.{grows_none, grows_on, led-further}
 use Rattle.qv_check_lines.proofs.TakenBy.{nothing-took, took-on}
 use Rattle.qv_cert.proofs.Took.{lines-on}
@@ -11,7 +13,7 @@ use Rattle.qv_check_lines.proofs.rewriting.read_passes.Goals as goal
 pub returns-in_err-checker-clause-err : goal.returns-in_err-checker-clause-err
 returns-in_err-checker-clause-err g c =
     let p = err_from_is_err_and c.from_residual.result c.from_residual.ensures.1 in
-    rw (p.1, p.2) (λ task answer. c.passes.invariant.leads task answer c.read_line.new.reader.given (to_give c.read_line.new.reader.rest (g.S.Source.left c.read_line.new.source)) c.in_err-checker.field-0.0 (c.in_err-checker.ensures.err task answer))
+    rw (p.1, p.2) (λ task answer. (c.passes.invariant.leads task answer).judged c.read_line.new.reader.given (to_give c.read_line.new.reader.rest (g.S.Source.left c.read_line.new.source)) c.in_err-checker.field-0.0 (c.in_err-checker.ensures.err task answer))
 
 pub returns-in_err-checker-clause-ends : goal.returns-in_err-checker-clause-ends
 returns-in_err-checker-clause-ends g c =
@@ -67,7 +69,7 @@ passes-init g c = record {
   begun = c.requires.begun;
   reads = c.requires.reads;
   version = refl;
-  leads = λ task answer now left verdict h. h;
+  leads = λ task answer. comes-here task (Rewriting answer (named c.args.store.now c.args.formulas.now.items)) c.args.reader.now.given (to_give c.args.reader.now.rest (g.S.Source.left c.args.source.now));
   took = nothing-took g.S.Source.read_gives g.S.Source.left c.args.reader.now c.args.source.now;
   telling = refl;
   count = omega arith;

@@ -9,7 +9,7 @@ use Rattle.qv_store.specs.Walks.{named}
 use Rattle.qv_choose_paths.specs.Sights.{IsRegion}
 use Rattle.qv_choose.specs.Conjuncts.{ArePicked}
 use Rattle.qv_choose.specs.Listing.{numbers_in}
-use Rattle.qv_choose.proofs.Stores.{grows-itself}
+use Rattle.qv_choose_clauses.proofs.Stores.{grows-itself}
 use Rattle.qv_choose.proofs.GoingLaws.{IsGoing, start-going, going-on, whole-going, own-picked}
 use Rattle.qv_choose.specs.Parts.{IsPartChoice}
 use Rattle.qv_choose.proofs.choosing.choose_each.Goals as goal

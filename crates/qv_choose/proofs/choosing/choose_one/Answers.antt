@@ -4,7 +4,7 @@ use Rattle.qv_words.specs.Tree.{Literal}
 use Rattle.qv_store.specs.Nodes.{tree_at}
 use Rattle.qv_store.specs.Stores.{StandsAt}
 use Rattle.qv_choose_candidates.specs.Chosen.{IsChoice}
-use Rattle.qv_choose_candidates.proofs.TrialUses.{if-other}
+use Rattle.qv_choose_clauses.proofs.Placed.{if-other}
 use Rattle.qv_choose_candidates.proofs.ChoiceUses.{value-choice}
 use Rattle.qv_choose.proofs.choosing.choose_one.Goals as goal
 

@@ -1,50 +1,39 @@
-use Rattle.std.proofs.Common.{◌≡◌, List, Option, ap, sym, ◌∙◌, subst}
-use Rattle.std.specs.Prelude.{All}
-use Rattle.std.specs.List.{flat_map}
-use Rattle.std.proofs.lemmas.List.Elements.{All-from_recursion}
-use Rattle.qv_words.specs.Word.{word_sort, word_value}
-use Rattle.qv_words.specs.Tree.{Literal}
-use Rattle.qv_words.specs.Choice.{candidates_of}
+use Rattle.std.proofs.Common.{◌≡◌, ap, sym, ◌∙◌, subst}
+use Rattle.qv_words.specs.Tree.{Tree}
+use Rattle.qv_words.specs.Choice.{definitions}
 use Rattle.qv_store.specs.Nodes.{tree_at}
-use Rattle.qv_store.specs.Stores.{StandsAt}
-use Rattle.qv_store.specs.Walks.{named}
-use Rattle.qv_choose_candidates.specs.declared.offers.Offer.{Offer}
-use Rattle.qv_choose_paths.specs.declared.seeing.Sight.{Sight}
-use Rattle.qv_choose_candidates.specs.Offers.{AreOffers, Finds, IsReady, Stays}
-use Rattle.qv_choose_candidates.specs.Chosen.{IsChoice, IsPut}
-use Rattle.qv_choose_candidates.proofs.TrialUses.{if-other}
-use Rattle.qv_choose_candidates.proofs.ChoiceUses.{found-choice, literal-choice}
+use Rattle.qv_store.proofs.Replacement.{grows-more}
+use Rattle.qv_choose_paths.specs.declared.ways.Place.{Place}
+use Rattle.qv_choose_paths.proofs.RowTerms.{stays-at}
+use Rattle.qv_choose_clauses.specs.Defining.{IsDefinition}
+use Rattle.qv_choose_clauses.proofs.Placed.{if-other}
+use Rattle.qv_choose_candidates.specs.Chosen.{IsChoice}
+use Rattle.qv_choose_candidates.proofs.SightLaws.{sight-grows}
+use Rattle.qv_choose.proofs.DefinedLaws.{region-grows}
 use Rattle.qv_choose.proofs.choosing.choose_term.Goals as goal
 
-pub first_offer-requires-clause-ready : goal.first_offer-requires-clause-ready
-first_offer-requires-clause-ready c =
-    let all : AreOffers c.in_ok-trial.trial.sight.place c.args.store.now c.in_ok-trial.trial.sight.walk (flat_map (candidates_of c.in_ok-trial.trial.sight.place.level) (named c.args.store.now c.in_ok-trial.trial.sight.walk)) c.in_ok-offers.offers.items =
-    subst (λ (s : Sight). AreOffers s.place c.args.store.now s.walk (flat_map (candidates_of s.place.level) (named c.args.store.now s.walk)) c.in_ok-offers.offers.items) (sym c.in_ok-trial.ensures.sight) c.in_ok-offers.ensures in
-    subst (λ (os : List Offer). All (IsReady c.in_ok-trial.trial.sight.place c.args.store.now c.in_ok-trial.trial.sight.walk) os) (sym c.deref.ensures.value)
-    (All-from_recursion (IsReady c.in_ok-trial.trial.sight.place c.args.store.now c.in_ok-trial.trial.sight.walk) c.in_ok-offers.offers.items all.ready)
+pub of-requires-2-clause-region : goal.of-requires-2-clause-region
+of-requires-2-clause-region c = region-grows c.args.point.now c.args.store.now c.definition.new.store c.args.region c.definition.ensures.grows c.in_ok-defined.ensures.shared c.requires.region
 
-pub put_offer-requires-clause-scene : goal.put_offer-requires-clause-scene
-put_offer-requires-clause-scene c = c.in_ok-trial.ensures.trial.sight.scene
+pub of-requires-2-clause-sight : goal.of-requires-2-clause-sight
+of-requires-2-clause-sight c = sight-grows c.args.store.now c.definition.new.store c.args.region c.in_ok-sight.sight c.definition.ensures.grows c.in_ok-defined.ensures.shared c.in_ok-sight.ensures.sight
 
-pub put_offer-requires-clause-ready : goal.put_offer-requires-clause-ready
-put_offer-requires-clause-ready c =
-    (subst (λ (o : Option Offer). Finds (Stays c.args.point.now c.args.store.now c.args.region c.in_ok-trial.trial.sight.place) c.in_ok-trial.trial.sight.place c.args.store.now c.in_ok-trial.trial.sight.walk c.deref.result.now o) c.in-Some.is c.in_ok-offer.ensures.found).ready
+pub choose_first-requires-clause-defined : goal.choose_first-requires-clause-defined
+choose_first-requires-clause-defined c =
+    let mid = c.definition.new.store in
+    subst (λ (t : Tree). IsDefinition c.args.place mid (definitions c.args.place.first c.args.place.end t c.args.place.level) c.in_ok-defined.defined) (sym (stays-at c.args.store.now mid c.args.region c.definition.ensures.grows c.requires.region.below))
+    (subst (λ (q : Place). IsDefinition q mid (definitions q.first q.end (tree_at c.args.store.now c.args.region) q.level) c.in_ok-defined.defined) c.in_ok-sight.ensures.place c.in_ok-defined.ensures.defined)
 
-pub returns-in-Some-clause-choice : goal.returns-in-Some-clause-choice
-returns-in-Some-clause-choice c =
-    let all : AreOffers c.in_ok-trial.trial.sight.place c.args.store.now c.in_ok-trial.trial.sight.walk (flat_map (candidates_of c.in_ok-trial.trial.sight.place.level) (named c.args.store.now c.in_ok-trial.trial.sight.walk)) c.in_ok-offers.offers.items =
-    subst (λ (s : Sight). AreOffers s.place c.args.store.now s.walk (flat_map (candidates_of s.place.level) (named c.args.store.now s.walk)) c.in_ok-offers.offers.items) (sym c.in_ok-trial.ensures.sight) c.in_ok-offers.ensures in
-    let found = subst (λ (os : List Offer). Finds (Stays c.args.point.now c.args.store.now c.args.region c.in_ok-trial.trial.sight.place) c.in_ok-trial.trial.sight.place c.args.store.now c.in_ok-trial.trial.sight.walk os c.in_ok-offer.field-0) c.deref.ensures.value c.in_ok-offer.ensures.found in
-    if-other c.put_offer.result (IsPut c.in_ok-trial.trial.sight.place c.args.store.now c.in-Some.offer c.put_offer.new.store) (IsChoice c.args.point.now c.args.place (tree_at c.args.store.now c.args.region) c.put_offer.new.store)
-    (λ id put. found-choice c.args.point.now c.args.store.now c.args.region c.in_ok-trial.trial.sight c.in_ok-offers.offers.items c.in_ok-trial.ensures.trial.sight all c.args.place c.in-Some.offer c.in_ok-offer.field-0 c.put_offer.new.store id (ap (λ s. s.place) c.in_ok-trial.ensures.sight ∙ c.in_ok-sight.ensures.place) c.requires.before c.in-Some.is found put)
-    c.put_offer.ensures.put
+pub choose_first-requires-clause-place : goal.choose_first-requires-clause-place
+choose_first-requires-clause-place c = ap (λ s. s.place) c.in_ok-trial.ensures.sight ∙ c.in_ok-sight.ensures.place
 
 pub returns-clause-choice : goal.returns-clause-choice
 returns-clause-choice c =
-    let all : AreOffers c.in_ok-trial.trial.sight.place c.args.store.now c.in_ok-trial.trial.sight.walk (flat_map (candidates_of c.in_ok-trial.trial.sight.place.level) (named c.args.store.now c.in_ok-trial.trial.sight.walk)) c.in_ok-offers.offers.items =
-    subst (λ (s : Sight). AreOffers s.place c.args.store.now s.walk (flat_map (candidates_of s.place.level) (named c.args.store.now s.walk)) c.in_ok-offers.offers.items) (sym c.in_ok-trial.ensures.sight) c.in_ok-offers.ensures in
-    let found = subst (λ (os : List Offer). Finds (Stays c.args.point.now c.args.store.now c.args.region c.in_ok-trial.trial.sight.place) c.in_ok-trial.trial.sight.place c.args.store.now c.in_ok-trial.trial.sight.walk os c.in_ok-offer.field-0) c.deref.ensures.value c.in_ok-offer.ensures.found in
-    if-other c.put_literal.result (λ id. StandsAt c.put_literal.new.store id (Literal (word_sort c.index-point-place.result) (word_value c.index-point-place.result))) (IsChoice c.args.point.now c.args.place (tree_at c.args.store.now c.args.region) c.put_literal.new.store)
-    (λ id stands. literal-choice c.args.point.now c.args.store.now c.args.region c.in_ok-trial.trial.sight c.in_ok-offers.offers.items c.in_ok-trial.ensures.trial.sight all c.first_offer.new.point c.args.place c.index-point-place.result c.in_ok-offer.field-0 c.put_literal.new.store id
-    (ap (λ s. s.place) c.in_ok-trial.ensures.sight ∙ c.in_ok-sight.ensures.place) c.requires.before c.in-None.is c.in_ok-offer.ensures.same c.requires.level c.index-point-place.is found stands)
-    c.put_literal.ensures.id
+    let mid = c.definition.new.store in
+    let new = c.choose_first.new.store in
+    let same = stays-at c.args.store.now mid c.args.region c.definition.ensures.grows c.requires.region.below in
+    if-other c.choose_first.result (IsChoice c.args.point.now c.args.place (tree_at mid c.args.region) new) (IsChoice c.args.point.now c.args.place (tree_at c.args.store.now c.args.region) new)
+    (λ id h. subst (λ (t : Tree). IsChoice c.args.point.now c.args.place t new id) same h) c.choose_first.ensures.choice
+
+pub returns-clause-grows : goal.returns-clause-grows
+returns-clause-grows c = grows-more c.args.store.now c.definition.new.store c.choose_first.new.store c.definition.ensures.grows c.choose_first.ensures.grows

@@ -1,6 +1,6 @@
 -- none so far
 use Rattle.std.proofs.Common.{◌≡◌, length}
-use Rattle.qv_choose_candidates.specs.Chosen.{NothingPut}
+use Rattle.qv_choose_clauses.specs.Placing.{NothingPut}
 use Rattle.qv_choose.proofs.choosing.no_terms.Given as goal
 
 abbrev pub invariant-places : goal.invariant-places

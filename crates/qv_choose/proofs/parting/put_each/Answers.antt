@@ -4,13 +4,13 @@ use Rattle.std.proofs.lemmas.List.Elements.{recursion_from_All, All-from_recursi
 use Rattle.qv_store.specs.Nodes.{tree_at}
 use Rattle.qv_store.specs.Walks.{named}
 use Rattle.qv_store.proofs.Replacement.{grows-more}
-use Rattle.qv_choose.proofs.Stores.{grows-itself}
+use Rattle.qv_choose_clauses.proofs.Stores.{grows-itself}
 use Rattle.qv_choose.specs.Parts.{Takes}
 use Rattle.qv_words.proofs.Elements.{all-at}
 use Rattle.qv_words.specs.Sorted.{no_levels, with_level}
 use Rattle.qv_words.specs.Tree.{Tree}
 use Rattle.qv_words.specs.Replacement.{HasTheirSorts}
-use Rattle.qv_choose.proofs.Stores.{tree-grows}
+use Rattle.qv_choose_clauses.proofs.Stores.{tree-grows}
 use Rattle.qv_choose.proofs.GoingLaws.{by-tree}
 use Rattle.qv_choose.proofs.PartLaws.{put-none, part-takes, part-put, all-put, at-number, length-set}
 use Rattle.qv_choose.proofs.parting.put_each.Goals as goal

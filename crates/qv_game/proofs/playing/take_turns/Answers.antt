@@ -1,17 +1,22 @@
-use Rattle.std.proofs.Common.{length, refl, subst}
+use Rattle.std.proofs.Common.{length, subst}
 use Rattle.qv_store.proofs.Replacement.{grows-more}
 use Rattle.qv_game_turns.specs.Turns.{IsCloser, IsTurn}
 use Rattle.qv_game_turns.specs.declared.turns.Turn.{Turn}
 use Rattle.qv_game_state.proofs.Counting.{same-transitive}
 use Rattle.qv_game_state.proofs.Entered.{grows-none}
-use Rattle.qv_game.proofs.Rounds.{first-turn, next-turn, turn-nearer}
+use Rattle.qv_game.proofs.Rounds.{first-playing, first-turn, next-turn, turn-nearer}
 use Rattle.qv_game.proofs.playing.take_turns.Goals as goal
+
+pub first_spot-requires : goal.first_spot-requires
+first_spot-requires c =
+    (c.requires.0, c.requires.1, first-playing c.args.store.now c.args.problem.now c.requires.0 c.requires.1 c.args.game.now c.args.meter.now c.requires.2)
 
 pub turns-init : goal.turns-init
 turns-init c = record {
   grows = grows-none c.args.store.now;
-  turn = λ p limit h. first-turn c.args.store.now c.args.problem.now p limit c.args.game.now _ c.args.meter.now h refl c.new.ensures.items;
-  counts = refl;
+  turn = λ p limit h. first-turn c.args.store.now c.args.problem.now p limit c.args.game.now c.first_spot.new.game _ c.args.meter.now c.first_spot.new.meter h
+      (c.in_ok-spot.ensures.playing p limit (first-playing c.args.store.now c.args.problem.now p limit c.args.game.now c.args.meter.now h) h.none);
+  counts = c.first_spot.ensures.counts;
 }
 
 pub next_turn-requires : goal.next_turn-requires

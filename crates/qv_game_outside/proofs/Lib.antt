@@ -1,0 +1,3 @@
+-- the inside
+pub mod Denials
+pub mod Models

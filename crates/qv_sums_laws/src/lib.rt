@@ -1,0 +1,4 @@
+//! The law of the pass of sums: what the definitions of `qv_words` say of it.
+#![tactic(auto)]
+
+pub mod laws;
