@@ -43,7 +43,7 @@ pub(crate) fn first_holding(
 }
 
 // Whether an entry is of this level and winner, and its region is true at the point of the table.
-// An entry without terms is a forced one, whose region is a conjunction of equations.
+// An entry without terms is a forced one, whose region is most often a conjunction of equations.
 fn holds(
     entry: &Entry,
     store: &Store,

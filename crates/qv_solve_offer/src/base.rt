@@ -21,7 +21,7 @@ const MOST_VARIABLES: u32 = 1 << 21;
 const MOST_IDS: u64 = 1 << 61;
 
 // What is no larger than this is never outgrown.
-const FEW_IDS: u64 = 1 << 14;
+const FEW_IDS: u64 = 1 << 11;
 
 // How often at most the core is asked again whether fewer assumptions fail.
 const MOST_ROUNDS: u64 = 8;

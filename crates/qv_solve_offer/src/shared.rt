@@ -16,8 +16,13 @@ use qv_store::{Id, NoMemory, Store};
 use qv_words::Word;
 use std::alloc::Global;
 
-// How many conflicts a search may take.
+// How many conflicts a search may take, and how many more for each formula.
 const MOST_CONFLICTS: u64 = 2_000;
+
+const CONFLICTS_A_FORMULA: u64 = 8;
+
+// Checks of fewer formulas are small, and are quicker alone.
+const FEW_FORMULAS: usize = 4;
 
 /// Formulas of the checks of one script, each with its clauses once, and a core that has them all,
 /// in which a check assumes its own. What it gives may be wrong, and is to be looked at.
@@ -43,9 +48,9 @@ impl Shared {
     }
 
     /// Words for the constants of formulas, by index, which may make all of them true. There are
-    /// none at the first check, where a formula has a quantifier, and where no words are found
-    /// within a budget and variables of its own, which are charged to no record. Nothing is claimed
-    /// of the words.
+    /// none at the first check, where there are few formulas, where one has a quantifier, and where
+    /// no words are found within a budget and variables of its own, which are charged to no record.
+    /// Nothing is claimed of the words.
     pub fn words(&mut self, store: &Store, formulas: &[Id]) -> Vec<Option<Word>>
         requires ids { All (λ id. id < length store.now) formulas.now }
         requires shared { IsShared store.now self.old }
@@ -53,7 +58,7 @@ impl Shared {
     {
         // What a store keeps.
         let _count = store.len();
-        if !self.begun || has_quantifier(store, formulas) {
+        if !self.begun || is_small(formulas) || has_quantifier(store, formulas) {
             self.begun = true;
             return Vec::new(self.alloc);
         }
@@ -103,6 +108,11 @@ fn is_outgrown(bases: &[Base]) -> bool {
         Some(base) => base.is_outgrown(),
         None => false,
     }
+}
+
+// Whether a check of these is quicker alone.
+fn is_small(formulas: &[Id]) -> bool {
+    formulas.len() < FEW_FORMULAS
 }
 
 // Whether some formula has a quantifier.
