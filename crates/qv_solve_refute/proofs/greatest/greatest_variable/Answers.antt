@@ -2,7 +2,7 @@ use Rattle.std.proofs.Common.{◌≡◌, ap, ◌∙◌}
 use Rattle.qv_cnf.specs.Listing.{Listing, clauses_of}
 use Rattle.qv_cert_formulas.specs.Numbers.{under_ids}
 use Rattle.qv_cert_formulas.proofs.Given.{live-from_one}
-use Rattle.qv_solve_refute.proofs.Greatest.{greatest-start, greatest-next, greatest-all}
+use Rattle.qv_solve_refute.proofs.GreatestVariable.{greatest-start, greatest-next, greatest-all}
 use Rattle.qv_solve_refute.proofs.greatest.greatest_variable.Goals as goal
 
 pub clauses-init : goal.clauses-init
