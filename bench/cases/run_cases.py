@@ -1151,6 +1151,9 @@ def write_objects():
 
 # --- scripts with a solver ----------------------------------------------------------------------
 
+STATISTICS = b"(get-info :all-statistics)"
+ODD = b"(declare-const q (_ BitVec 3))(assert (= (bvadd q q) (_ bv5 3)))(check-sat)"
+SHIFTED = b"(declare-const p (_ BitVec 3))(assert (not (= (bvadd p (_ bv1 3)) (bvsub p (_ bv7 3)))))(check-sat)"
 SAT, UNSAT = Known("sat"), Known("unsat")
 REASON = b"(get-info :reason-unknown)"
 
@@ -1267,6 +1270,15 @@ def write_budgets():
     run(b"(get-info :all-statistics)(check-sat)")
     run(b"(check-sat)(assert false)(reset)(get-info :all-statistics)(check-sat)")
     run(b"(set-option :print-success true)(get-info :all-statistics)(get-info :all-statistics :name)")
+    note("\nBehind a check: with one conflict or instance less its budget is spent, and the variables are those of the clauses that its section "
+         "refutes,\nby the reference of the certificates. An unknown section refutes none.")
+    run(b"(check-sat)" + STATISTICS + b"(assert false)" + STATISTICS + b"(check-sat)" + STATISTICS, known=numbered(Known("sat", counts=(1, 0, 1)), Known("unsat", counts=(1, 0, 1))))
+    run(ODD + STATISTICS, known=numbered(Known("unsat", counts=(1, 2, 18))))
+    run(SHIFTED + STATISTICS, known=numbered(Known("unsat", counts=(9, 2, 27))))
+    run(SHIFTED + STATISTICS, conflicts=9, instances=2, known=numbered(Known("unsat", counts=(9, 2, 27))))
+    run(SHIFTED + REASON, conflicts=8, known=numbered(spent("conflicts")))
+    run(SHIFTED + REASON, instances=1, known=numbered(spent("instances")))
+    run(ONE + STATISTICS, variables=1, known=numbered(Known("unknown", spent="variables", counts=(0, 0, 0))))
     note("\nBudgets from 1 on: what is said, where it differs from the budget before. One is spent in a query, in the tree or in the final list.", SERIES)
     for kind, most, text, answer in [("conflicts", 4, LONGER, UNSAT), ("instances", 4, BOTH, UNSAT), ("variables", 8, BOTH, UNSAT), ("variables", 8, ONE, SAT),
                                      ("conflicts", 60, pigeons(4, 3), UNSAT), ("instances", 16, greatest(3), SAT), ("instances", 16, below_zero(3), UNSAT),

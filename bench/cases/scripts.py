@@ -221,7 +221,8 @@ class Undetermined(Exception):
 
 class Known:
     """The answer to a check: sat, unsat or unknown; with the one model by names, with what was spent, or with the values that are
-    asked for behind it, in their order; with how many conflicts and instances were counted, where these are asked for."""
+    asked for behind it, in their order; with how many conflicts and instances were counted, and the greatest variable of the clauses
+    that its section refutes, where these are asked for."""
 
     def __init__(self, word, model=None, spent=None, values=None, counts=None):
         self.word, self.model, self.spent, self.values, self.counts = word, model, spent, values, counts
@@ -551,7 +552,7 @@ class Script:
         self.need(k.kind == "keyword", "Form", p)
         self.need(k.text != b":reason-unknown" or self.last == "unknown", "NoReason", p)
         if k.text == b":all-statistics":
-            return b"()\n" if self.counts is None else b"(:conflicts %d :instances %d)\n" % self.counts
+            return b"()\n" if self.counts is None else b"(:conflicts %d :instances %d :variables %d)\n" % self.counts
         texts = {**INFOS, b":assertion-stack-levels": b"%d" % (len(self.levels) - 1), b":reason-unknown": (self.reason or "").encode()}
         text = texts.get(k.text)
         return b"unsupported\n" if text is None else b"(" + k.text + b" " + text + b")\n"

@@ -7,11 +7,11 @@ ghost use Rattle.qv_shell_args.specs.Call.{request_in};
 
 use qv_io::{Sink, Source};
 use qv_meter::{Meter, Record};
-use qv_shell::{Plan, Status, plan, run};
+use qv_shell::{Counts, Last, Plan, Status, Watch, plan, run};
 use qv_shell_args::{Call, Settings, call_of, complaint};
 use qv_shell_host::{
-    Charged, Identity, Pace, Report, Subject, Tailed, Traced, if_open, is_input, lent, make_anew,
-    make_cert, no_memory, not_twice, open_text, output_identity, with_pace, with_tail, with_trail,
+    Charged, Identity, Pace, Report, Subject, Tailed, Told, Traced, if_open, is_input, lent,
+    make_anew, make_cert, no_memory, not_twice, open_text, output_identity, with_tail, with_trail,
     words,
 };
 use qv_shell_launch::{Given, Run, launch_alone, launch_check, launch_solve, launch_trim};
@@ -34,28 +34,79 @@ struct Streams {
     report: Report,
 }
 
-// The words of a run, with its meter and the status of the last one.
+// How many checks were told, the sum of their variables, and what is said of them now and then.
 #[derive(Drop)]
-struct Words<'a> {
-    alloc: Global,
-    words: &'a [String],
-    meter: Meter,
-    ended: Option<Status>,
+struct Telling<'a, R> {
+    checks: u64,
+    variables: u64,
+    pace: Option<Pace<'a, R>>,
 }
 
-impl<'a> Words<'a> {
-    // Of these words.
-    fn new(alloc: Global, words: &'a [String]) -> Words<'a> {
-        Words {
-            alloc,
-            words,
-            meter: Meter::new(alloc),
-            ended: None,
+impl<R: Clock> Watch for Telling<'_, R> {
+    fn answered(&mut self, checks: u64, last: &Last, counts: Counts) {
+        if checks <= self.checks {
+            return;
+        }
+        self.checks = checks;
+        self.variables = self.variables.saturating_add(counts.variables as u64);
+        if let Some(pace) = &mut self.pace {
+            pace.say(told(checks, last, counts));
         }
     }
 }
 
-impl Run for Words<'_> {
+// What is told of the check of this number.
+fn told(check: u64, last: &Last, counts: Counts) -> Told {
+    Told {
+        check,
+        answer: match last {
+            Last::Sat { .. } => "sat",
+            Last::Unsat => "unsat",
+            Last::Unknown { .. } => "unknown",
+        },
+        conflicts: counts.conflicts,
+        instances: counts.instances,
+        variables: counts.variables,
+    }
+}
+
+// The words of a run, with its meter, what is told of its checks, and the status of the last one.
+#[derive(Drop)]
+struct Words<'a, R> {
+    alloc: Global,
+    words: &'a [String],
+    meter: Meter,
+    telling: Telling<'a, R>,
+    ended: Option<Status>,
+}
+
+impl<'a, R: Clock> Words<'a, R> {
+    // Of these words.
+    fn new(alloc: Global, words: &'a [String]) -> Words<'a, R> {
+        Words {
+            alloc,
+            words,
+            meter: Meter::new(alloc),
+            telling: Telling {
+                checks: 0,
+                variables: 0,
+                pace: None,
+            },
+            ended: None,
+        }
+    }
+
+    // Says something of answers now and then, where the words ask for it.
+    fn begin(&mut self, rt: &'a R, report: Report) {
+        if let Ok(Call::Solve { settings, .. }) = call_of(self.alloc, self.words) {
+            if settings.verbose {
+                self.telling.pace = Pace::begin(rt, report);
+            }
+        }
+    }
+}
+
+impl<R: Clock> Run for Words<'_, R> {
     ghost request = { λ run. request_in (map string_bytes run.words.now) };
 
     ghost records = { λ run. records_of run.meter };
@@ -71,7 +122,10 @@ impl Run for Words<'_> {
     ) -> Status {
         let words = self.words;
         let meter = &mut self.meter;
-        let status = run(self.alloc, words, script, cert_in, out, cert_out, meter);
+        let watch = &mut self.telling;
+        let status = run(
+            self.alloc, words, script, cert_in, out, cert_out, meter, watch,
+        );
         self.ended = Some(status);
         status
     }
@@ -84,7 +138,14 @@ impl Run for Words<'_> {
     }
 
     fn charged(&self) -> Charged {
-        charged(&self.meter)
+        let charged = charged(&self.meter);
+        match call_of(self.alloc, self.words) {
+            Ok(Call::Solve { .. }) => Charged {
+                variables: Some(self.telling.variables),
+                ..charged
+            },
+            _ => charged,
+        }
     }
 }
 
@@ -197,7 +258,7 @@ fn solve<T: Run, R: Files + Clock + AllocGlobal>(
         name,
         script: lent(&mut script),
         cert: unnamed(),
-        output: with_pace(lent(&mut output), pace(rt, settings, &report)),
+        output: lent(&mut output),
     };
     let status = launch_solve(run, given, cert_name, cert, &report);
     remark(alloc, status, name, &mut script, &output, &report);
@@ -207,18 +268,6 @@ fn solve<T: Run, R: Files + Clock + AllocGlobal>(
         }
     }
     status
-}
-
-// What is said of answers now and then, where the settings ask for it.
-fn pace<'a, R: Clock>(
-    rt: &'a R,
-    settings: Option<Settings>,
-    report: &'a Report,
-) -> Option<Pace<'a, R>> {
-    match settings {
-        Some(settings) if settings.verbose => Pace::begin(rt, report),
-        _ => None,
-    }
 }
 
 // Says where a script has a fault, and which answer contradicts it.
@@ -242,6 +291,7 @@ fn charged(meter: &Meter) -> Charged {
         checks: 0,
         conflicts: 0,
         instances: 0,
+        variables: None,
     };
     for record in meter.older() {
         charge(&mut charged, record);
@@ -291,11 +341,15 @@ fn refuse<T: Run>(alloc: Global, run: &mut T, words: &[String], streams: Streams
 }
 
 // Runs with the words that the program was given.
-fn answer<R: Files + Env + Clock + AllocGlobal>(rt: &R, streams: Streams) -> Status {
+fn answer<R: Files + Env + Clock + AllocGlobal>(
+    rt: &R,
+    streams: Streams,
+    progress: Report,
+) -> Status {
     match words(rt) {
-        Ok(Some(words)) => answer_words(rt, &words, streams),
+        Ok(Some(words)) => answer_words(rt, &words, streams, progress),
         Ok(None) => {
-            let mut run = Words::new(rt.alloc(), &[]);
+            let mut run: Words<'_, R> = Words::new(rt.alloc(), &[]);
             run_alone(&mut run, Some("a word isn't UTF-8"), streams)
         }
         Err(AllocError) => stop(&streams.report),
@@ -307,8 +361,10 @@ fn answer_words<R: Files + Clock + AllocGlobal>(
     rt: &R,
     words: &[String],
     streams: Streams,
+    progress: Report,
 ) -> Status {
     let mut run = Words::new(rt.alloc(), words);
+    run.begin(rt, progress);
     let plan = plan(rt.alloc(), words);
     match &plan {
         Plan::Solve { script, cert } => solve(rt, &mut run, script, cert, streams),
@@ -339,5 +395,8 @@ fn main(rt: HostRuntime) -> ExitCode {
             to: if_open(rt.stderr()),
         },
     };
-    ExitCode::from(answer(&rt, streams))
+    let progress = Report {
+        to: if_open(rt.stderr()),
+    };
+    ExitCode::from(answer(&rt, streams, progress))
 }

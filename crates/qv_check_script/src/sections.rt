@@ -87,6 +87,7 @@ pub(crate) fn section_turn<C: Source>(
             let counts = Counts {
                 conflicts: 0,
                 instances: 0,
+                variables: 0,
             };
             course.script.answered(last, counts);
             Ok(Turn::Goes(Vec::from_slice(alloc, answer_line(answer))?))

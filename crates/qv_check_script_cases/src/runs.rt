@@ -4,7 +4,7 @@ use qv_cases_rows::Answer;
 use qv_cases_runs::check_words;
 use qv_io::{MemSink, MemSource, NullSink, Sink, Source};
 use qv_meter::Meter;
-use qv_shell::{Status, run};
+use qv_shell::{Nobody, Status, run};
 use std::alloc::Global;
 
 /// What a run is given.
@@ -45,6 +45,7 @@ fn status_of<S: Source, C: Source, O: Sink>(
         out,
         &mut NullSink::new(),
         &mut meter,
+        &mut Nobody,
     )
 }
 

@@ -104,6 +104,13 @@ impl Script {
         self.stack.last()
     }
 
+    /// What the last check was charged for, if there was one.
+    pub fn counts(&self) -> Option<Counts>
+        ensures { result ≡ self.now.counts }
+    {
+        self.stack.counts()
+    }
+
     /// The last check has this answer, and was charged for so much.
     pub fn answered(&mut self, last: Last, counts: Counts)
         ensures held { self.new ≡ record self.old { last = Some last; counts = Some counts } }

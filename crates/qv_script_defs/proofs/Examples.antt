@@ -359,13 +359,13 @@ lasting = refl
 statistics : Go ((
   Unsat ∷ [],
   codes "(get-info :all-statistics)(check-sat)(assert false)(get-info :all-statistics)(reset)(get-info :all-statistics)",
-  Did (Text (codes "()\n")) ∷ Did (Check ([])) ∷ Did Quiet ∷ Did (Text (codes "(:conflicts 0 :instances 0)\n")) ∷ Did Quiet ∷ Did (Text (codes "()\n")) ∷ Stopped all_read ∷ [],
+  Did (Text (codes "()\n")) ∷ Did (Check ([])) ∷ Did Quiet ∷ Did (Text (codes "(:conflicts 0 :instances 0 :variables 0)\n")) ∷ Did Quiet ∷ Did (Text (codes "()\n")) ∷ Stopped all_read ∷ [],
 )
     ∷ [])
 unfolding all_of operator_named reserved_construct commands infos settings is_logic digits matched tokens_behind run quoted_len text_len literal behind_hash behind_colon behind_dot behind_digits number behind_zero token_at is_reserved kind_of is_white is_line_end is_digit is_binary is_letter is_hex is_symbol begins_symbol
 statistics = refl
 
-statistics-told : statistics_text (Some (record { conflicts = 1024; instances = 7 })) ≡ codes "(:conflicts 1024 :instances 7)\n"
+statistics-told : statistics_text (Some (record { conflicts = 1024; instances = 7; variables = 300 })) ≡ codes "(:conflicts 1024 :instances 7 :variables 300)\n"
 unfolding digits
 statistics-told = refl
 

@@ -177,4 +177,4 @@ answered last counts s = record s { last = Some last; counts = Some counts }
 
 -- where it doesn't matter what was counted
 abbrev pub no_counts : Counts
-no_counts = record { conflicts = 0; instances = 0 }
+no_counts = record { conflicts = 0; instances = 0; variables = 0 }

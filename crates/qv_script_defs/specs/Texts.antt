@@ -53,7 +53,8 @@ reason_text place _ = refuse place NoReason
 
 -- what the last check was charged for
 abbrev pub counts_text : Counts → List ℕ
-counts_text c = codes "(:conflicts " ++ (decimal c.conflicts ++ (codes " :instances " ++ (decimal c.instances ++ codes ")")))
+counts_text c =
+    codes "(:conflicts " ++ (decimal c.conflicts ++ (codes " :instances " ++ (decimal c.instances ++ (codes " :variables " ++ (decimal c.variables ++ codes ")")))))
 
 abbrev pub statistics_text : Option Counts → List ℕ
 statistics_text None = line (codes "()")

@@ -117,8 +117,9 @@ fn counts_text(alloc: Global, counts: Counts) -> Result<String, NoMemory>
     let Counts {
         conflicts,
         instances,
+        variables,
     } = counts;
-    format!(in alloc; "(:conflicts {conflicts} :instances {instances})")
+    format!(in alloc; "(:conflicts {conflicts} :instances {instances} :variables {variables})")
 }
 
 /// What the last check was charged for, if there was one.

@@ -32,6 +32,7 @@ unknown-certified = record {
   section = refl;
   apart = All-cons HasNoLf (codes "check 1 unknown") (codes "end" ∷ []) (All-from_recursion (λ byte. byte ≢ 10) (codes "check 1 unknown") (free (codes "check 1 unknown") refl))
       (All-cons HasNoLf (codes "end") [] (All-from_recursion (λ byte. byte ≢ 10) (codes "end") (free (codes "end") refl)) (All-nil HasNoLf));
+  counted = refl;
 }
 
 -- the lines as they are printed, without their LF

@@ -172,6 +172,7 @@ unknown-certified limit number formulas few =
     record {
       section = ap (λ (r : Reading). r ∷ cert_line false (line_text EndLine) ∷ []) check.reads ∙ ap (λ (r : Reading). Ok (CheckLine number answer.Unknown) ∷ r ∷ []) end.reads;
       apart = All-cons HasNoLf (line_text (CheckLine number answer.Unknown)) (line_text EndLine ∷ []) check.apart (All-cons HasNoLf (line_text EndLine) [] end.apart (All-nil HasNoLf));
+      counted = refl;
     }
 
 -- some checks and pieces with which a script is followed, with sections as far as lines can number them

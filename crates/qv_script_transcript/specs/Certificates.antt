@@ -1,9 +1,13 @@
 -- The certificate of a script's checks: its first line, and a section for each check.
-use Rattle.std.specs.Prelude.{◌≡◌, ℕ, suc, List, [], ◌∷◌, ◌++◌, All, map, flat_map, codes}
+use Rattle.std.specs.Prelude.{◌≡◌, ℕ, suc, max, List, [], ◌∷◌, ◌++◌, All, map, flat_map, codes}
+use Rattle.std.specs.List.{fold}
 use Rattle.qv_words.specs.declared.op.Answer.{Answer}
 use Rattle.qv_words.specs.declared.op.Answer.TheVariants as answer
+use Rattle.qv_cnf.specs.Listing.{Numbered}
+use Rattle.qv_cert.specs.ClauseList.{clause_list}
+use Rattle.qv_cert.specs.Section.{Task}
 use Rattle.qv_cert.specs.TextLaws.{HasNoLf, bytes_of_lines}
-use Rattle.qv_cert.specs.Shown.{IsSection}
+use Rattle.qv_cert.specs.Shown.{IsSection, last_list}
 use Rattle.qv_check_laws.specs.AnswerLaws.{task_of}
 use Rattle.qv_sexpr.specs.Script.{reads}
 use Rattle.qv_script_defs.specs.State.{Last, Sat, Unsat, Unknown, opening}
@@ -24,10 +28,22 @@ word_of (Sat values) = answer.Sat
 word_of Unsat = answer.Unsat
 word_of (Unknown spent) = answer.Unknown
 
--- the lines are a section of the answer, for the check-sat of this number
+-- the greatest variable of clauses
+abbrev pub greatest_variable : List Numbered → ℕ
+greatest_variable clauses = fold (λ n c. fold (λ m l. max m l.variable) n c.lits) 0 clauses
+
+-- the greatest variable of the clauses that a section refutes; an unknown one refutes none
+abbrev pub variables_of : (task : Task) (answer : Answer) (texts : List (List ℕ)) → IsSection task answer texts → ℕ
+variables_of task answer.Sat texts proof = greatest_variable (clause_list (last_list task.problem answer.Sat proof.given proof.rules))
+variables_of task answer.Unsat texts proof = greatest_variable (clause_list (last_list task.problem answer.Unsat proof.given proof.rules))
+variables_of task answer.Unknown texts read = 0
+
+-- the lines are a section of the answer, for the check-sat of this number, and the check counts its
+-- variables
 pub record IsCertified (number : ℕ) (c : Certified) : Type 0 where
   pub section : IsSection (task_of c.check.formulas number 2) (word_of c.check.answer) c.lines
   pub apart : All HasNoLf c.lines
+  pub counted : c.check.counts.variables ≡ variables_of (task_of c.check.formulas number 2) (word_of c.check.answer) c.lines section
 
 -- numbered one after the other
 abbrev pub AreCertified : ℕ → List Certified → Type 0

@@ -12,7 +12,7 @@ use qv_check_script::verify;
 use qv_gen::{Counts, GREATEST_NUMBER, Status, TextSink, counts_text, script, write_text};
 use qv_io::{MemSource, NullSink, PIECE, Sink};
 use qv_meter::{Limits, Meter};
-use qv_shell_follow::{Tally, solve};
+use qv_shell_follow::{Nobody, Tally, solve};
 use std::alloc::{AllocError, Global};
 
 // The limit on prefixes where none is given.
@@ -77,6 +77,7 @@ fn solved(
         &mut NullSink::new(),
         cert,
         meter,
+        &mut Nobody,
     ) {
         Ok(followed) => Ok(followed.tally),
         Err(_) => Err(AllocError),

@@ -18,3 +18,4 @@ pub use opening::Plan;
 pub use planning::plan;
 pub use program::run;
 pub use qv_gen::Status;
+pub use qv_shell_follow::{Counts, Last, Nobody, Watch};

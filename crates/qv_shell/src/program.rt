@@ -32,11 +32,13 @@ use qv_gen::{Status, generate, write_text};
 use qv_io::{Sink, Source};
 use qv_meter::Meter;
 use qv_shell_args::{Call, CallFault, call_of};
+use qv_shell_follow::Watch;
 use qv_shell_qdimacs::laws::{file_answers_are_true, solved_files_are_accepted};
 use std::alloc::Global;
 
-/// Does all that the program does. `words` are those behind the program's name.
-pub fn run<S: Source, C: Source, O: Sink, P: Sink>(
+/// Does all that the program does. `words` are those behind the program's name. Where a script is
+/// solved, `watch` is told of its checks.
+pub fn run<S: Source, C: Source, O: Sink, P: Sink, W: Watch>(
     alloc: Global,
     words: &[String],
     script: &mut S,
@@ -44,6 +46,7 @@ pub fn run<S: Source, C: Source, O: Sink, P: Sink>(
     out: &mut O,
     cert_out: &mut P,
     meter: &mut Meter,
+    watch: &mut W,
 ) -> Status
     // A script is solved: what was printed, the certificate, the records of the meter, what was read
     // and the status are those of one run.
@@ -145,14 +148,14 @@ pub fn run<S: Source, C: Source, O: Sink, P: Sink>(
     file_answers_are_true();
     solved_files_are_accepted();
     match call_of(alloc, words) {
-        Ok(call) => perform(alloc, &call, script, cert_in, out, cert_out, meter),
+        Ok(call) => perform(alloc, &call, script, cert_in, out, cert_out, meter, watch),
         Err(CallFault::Refused) => write_text(out, USAGE, 2),
         Err(CallFault::NoMemory) => 5,
     }
 }
 
 // Does what a call asks for: what `run` says of the words holds of the call.
-fn perform<S: Source, C: Source, O: Sink, P: Sink>(
+fn perform<S: Source, C: Source, O: Sink, P: Sink, W: Watch>(
     alloc: Global,
     call: &Call,
     script: &mut S,
@@ -160,6 +163,7 @@ fn perform<S: Source, C: Source, O: Sink, P: Sink>(
     out: &mut O,
     cert_out: &mut P,
     meter: &mut Meter,
+    watch: &mut W,
 ) -> Status
     requires { IsInRanges call.now }
     ensures solves { IfSolve (Some (request_of call.now)) (λ settings.
@@ -241,7 +245,9 @@ fn perform<S: Source, C: Source, O: Sink, P: Sink>(
     ensures cert_out_count { P.faults cert_out.old ≤ P.faults cert_out.new }
 {
     match call {
-        Call::Solve { settings, .. } => { solve(alloc, *settings, script, out, cert_out, meter) }
+        Call::Solve { settings, .. } => {
+            solve(alloc, *settings, script, out, cert_out, meter, watch)
+        }
         Call::Check { places, .. } => check(alloc, *places, script, cert_in, out),
         Call::Lrat { .. } => prove(alloc, script, cert_in, out),
         Call::Trim { places, .. } => trim(alloc, *places, script, cert_in, out, cert_out),

@@ -14,18 +14,19 @@ use qv_gen::Status;
 use qv_io::{Sink, Source};
 use qv_meter::{Limits, Meter};
 use qv_shell_args::{Budgets, Settings};
-use qv_shell_follow::{Ending, Halt};
+use qv_shell_follow::{Ending, Halt, Watch};
 use std::alloc::Global;
 
 /// Solves a script with these settings, and gives the status. The checker looks at each section where
-/// they say so.
-pub(crate) fn solve<S: Source, O: Sink, P: Sink>(
+/// they say so, and `watch` is told of each check.
+pub(crate) fn solve<S: Source, O: Sink, P: Sink, W: Watch>(
     alloc: Global,
     settings: Settings,
     script: &mut S,
     out: &mut O,
     cert: &mut P,
     meter: &mut Meter,
+    watch: &mut W,
 ) -> Status
     requires { AreSettings settings }
     ensures run { IsSolveRun settings.places S.read_gives (limits_with settings.budgets)
@@ -53,6 +54,7 @@ pub(crate) fn solve<S: Source, O: Sink, P: Sink>(
         out,
         cert,
         meter,
+        watch,
     ) {
         Ok(followed) => ending_status(followed.ending),
         Err(halt) => halt_status(halt),

@@ -17,13 +17,15 @@ use Rattle.qv_meter.specs.Views.{quantity_of}
 use Rattle.qv_script_defs.specs.State.{Last, Unknown}
 use Rattle.qv_script_stack.specs.declared.held.Declared.{Declared}
 use Rattle.qv_script_stack.specs.Held.{Held, declared_of}
-use Rattle.qv_solve_section.specs.Sections.{IsSectionOf, task_of}
+use Rattle.qv_cert.specs.TextLaws.{HasNoLf}
+use Rattle.qv_solve_section.specs.Sections.{IsCounted, task_of}
 use Rattle.qv_solve.specs.declared.solved.Solved.{Solved}
 use Rattle.qv_solve.specs.declared.solved.Solved.TheVariants as solved
-use Rattle.qv_solve.specs.Solutions.{answer_of, lines_of, GivesConstants, IsAnswerOf, IsSettled}
+use Rattle.qv_solve.specs.Solutions.{answer_of, lines_of, variables_of, GivesConstants, IsAnswerOf, IsSettled}
 use Rattle.qv_script_transcript.specs.Lawful.{IsLawfulAnswer}
 use Rattle.qv_script_transcript.specs.Following.{with_answer}
-use Rattle.qv_script_transcript.specs.Certificates.{word_of}
+use Rattle.qv_script_transcript.specs.Certificates.{IsCertified}
+use Rattle.qv_script_transcript.specs.Certificates as sections
 use Rattle.qv_script_transcript.specs.PrintedLines.{line_text}
 use Rattle.qv_shell_answer.specs.declared.checking.Checked.{Checked}
 use Rattle.qv_shell_answer.specs.Metered.{IsLeft, IsRecordOf, counts_of}
@@ -53,22 +55,17 @@ module _ (trees : List Tree) (held : Held) (ids : List ℕ) (are : ids ≡ held.
 -- ---- what is kept of an answer
 
 fit-of : (owns : List Declared) (formulas : List Tree) (s : Solved) → GivesConstants formulas s → All (IsOver owns) (constants_of_each formulas) → HaveFit owns s
-fit-of owns formulas (solved.Sat section given) gives over = values-fit owns formulas given.items gives over
-fit-of owns formulas (solved.Unsat section) gives over = tt
+fit-of owns formulas (solved.Sat section given variables) gives over = values-fit owns formulas given.items gives over
+fit-of owns formulas (solved.Unsat section variables) gives over = tt
 fit-of owns formulas (solved.Unknown section kind) gives over = tt
 
 pub answer-suits : (owns : List Declared) (formulas : List Tree) (s : Solved) → All (λ own. IsLawful own.sort) owns → All (IsOver owns) (constants_of_each formulas) → GivesConstants formulas s → All IsCertLine (lines_of s) → Suits owns s
 answer-suits owns formulas s lawful over gives form = record { lawful = lawful; fit = fit-of owns formulas s gives over; form = form }
 
 kept-lawful : (owns : List Declared) (formulas : List Tree) (s : Solved) → All (IsOver owns) (constants_of_each formulas) → IsAnswerOf formulas (answer_of s) → GivesConstants formulas s → IsLawfulAnswer (declared_of owns) formulas (kept_of owns s)
-kept-lawful owns formulas (solved.Sat section given) over truth gives = values-lawful owns formulas given.items gives over
-kept-lawful owns formulas (solved.Unsat section) over truth gives = truth
+kept-lawful owns formulas (solved.Sat section given variables) over truth gives = values-lawful owns formulas given.items gives over
+kept-lawful owns formulas (solved.Unsat section variables) over truth gives = truth
 kept-lawful owns formulas (solved.Unknown section kind) over truth gives = tt
-
-kept-word : (owns : List Declared) (s : Solved) → answer_of s ≡ word_of (kept_of owns s)
-kept-word owns (solved.Sat section given) = refl
-kept-word owns (solved.Unsat section) = refl
-kept-word owns (solved.Unknown section kind) = refl
 
 -- ---- its record
 
@@ -93,42 +90,49 @@ spent-left p k r h =
     let own = some-and r.kept (WorkedSpent p k r) h in
     spent-so k r own.2.3 p (to-some r.kept (Worked p r) own.0 own.1 (own.2.0, own.2.1, own.2.2))
 
-kept-record : (limit : ℕ) (counts : Counts) (limits : Limits) (owns : List Declared) (formulas : List Tree) (s : Solved) (m : Metering) → IsSomeAnd m.newest (λ r. r.limits ≡ limits) → IsSettled (problem_of formulas) m s → IfSome m.newest (λ r. counts ≡ counts_of r) →
+kept-record : (limit : ℕ) (counts : Counts) (limits : Limits) (owns : List Declared) (formulas : List Tree) (s : Solved) (m : Metering) → IsSomeAnd m.newest (λ r. r.limits ≡ limits) → IsSettled (problem_of formulas) m s → IfSome m.newest (λ r. counts ≡ counts_of r counts.variables) →
     IsSomeAnd m.newest (IsRecordOf limits (with_answer limit formulas (kept_of owns s) counts))
-kept-record limit counts limits owns formulas (solved.Sat section given) m limited settled told =
-    all-there m.newest (λ r. r.limits ≡ limits) (λ r. r.kept ≡ None) (λ r. counts ≡ counts_of r) (IsRecordOf limits (with_answer limit formulas (kept_of owns (solved.Sat section given)) counts))
+kept-record limit counts limits owns formulas (solved.Sat section given variables) m limited settled told =
+    all-there m.newest (λ r. r.limits ≡ limits) (λ r. r.kept ≡ None) (λ r. counts ≡ counts_of r counts.variables) (IsRecordOf limits (with_answer limit formulas (kept_of owns (solved.Sat section given variables)) counts))
     (λ r l e n. record { limited = l; counted = n; left = e }) limited settled told
-kept-record limit counts limits owns formulas (solved.Unsat section) m limited settled told =
-    all-there m.newest (λ r. r.limits ≡ limits) (λ r. r.kept ≡ None) (λ r. counts ≡ counts_of r) (IsRecordOf limits (with_answer limit formulas (kept_of owns (solved.Unsat section)) counts))
+kept-record limit counts limits owns formulas (solved.Unsat section variables) m limited settled told =
+    all-there m.newest (λ r. r.limits ≡ limits) (λ r. r.kept ≡ None) (λ r. counts ≡ counts_of r counts.variables) (IsRecordOf limits (with_answer limit formulas (kept_of owns (solved.Unsat section variables)) counts))
     (λ r l e n. record { limited = l; counted = n; left = e }) limited settled told
 kept-record limit counts limits owns formulas (solved.Unknown section k) m limited settled told =
-    all-there m.newest (λ r. r.limits ≡ limits) (λ r. IsSomeAnd r.kept (WorkedSpent (problem_of formulas) k r)) (λ r. counts ≡ counts_of r) (IsRecordOf limits (with_answer limit formulas (kept_of owns (solved.Unknown section k)) counts))
+    all-there m.newest (λ r. r.limits ≡ limits) (λ r. IsSomeAnd r.kept (WorkedSpent (problem_of formulas) k r)) (λ r. counts ≡ counts_of r counts.variables) (IsRecordOf limits (with_answer limit formulas (kept_of owns (solved.Unknown section k)) counts))
     (λ r l h n. record { limited = l; counted = n; left = spent-left (problem_of formulas) k r h }) limited settled told
+
+-- ---- its section
+
+kept-certified : (number limit : ℕ) (counts : Counts) (owns : List Declared) (formulas : List Tree) (s : Solved) (texts : List (List ℕ)) (section : IsSection (task_of (problem_of formulas) number) (answer_of s) texts) → All HasNoLf texts
+    → counts.variables ≡ sections.variables_of (task_of (problem_of formulas) number) (answer_of s) texts section → IsCertified number (record { check = with_answer limit formulas (kept_of owns s) counts; lines = texts })
+kept-certified number limit counts owns formulas (solved.Sat part given variables) texts section apart count = record { section = section; apart = apart; counted = count }
+kept-certified number limit counts owns formulas (solved.Unsat part variables) texts section apart count = record { section = section; apart = apart; counted = count }
+kept-certified number limit counts owns formulas (solved.Unknown part k) texts section apart count = record { section = section; apart = apart; counted = count }
 
 -- ---- the whole
 
 module _ (number : ℕ) (limits : Limits) (owns : List Declared) (formulas : List Tree) (m : Metering) (s : Solved)
     (over : All (IsOver owns) (constants_of_each formulas))
-    (section : IsSectionOf (task_of (problem_of formulas) number) (answer_of s) (lines_of s)) (form : All IsCertLine (lines_of s))
+    (section : IsCounted (task_of (problem_of formulas) number) (answer_of s) (lines_of s) (variables_of s)) (form : All IsCertLine (lines_of s))
     (truth : IsAnswerOf formulas (answer_of s)) (gives : GivesConstants formulas s)
     (limited : IsSomeAnd m.newest (λ r. r.limits ≡ limits)) (settled : IsSettled (problem_of formulas) m s) where
-  pub is-checked : (c : Checked) (counts : Counts) → IsKept owns s counts c → IfSome m.newest (λ r. counts ≡ counts_of r) → IsCheckedFor number limits owns formulas m c
-  is-checked c counts kept told =
-      let stand = printed-sections-stand (task_of (problem_of formulas) number) (answer_of s) (lines_of s) section form in
-      let own : IsSection (task_of (problem_of formulas) number) (word_of (kept_of owns s)) (map line_text (lines_of s)) =
-      subst (λ (a : Answer). IsSection (task_of (problem_of formulas) number) a (map line_text (lines_of s))) (kept-word owns s) stand.section in
+  pub is-checked : (c : Checked) (counts : Counts) → IsKept owns s counts c → IfSome m.newest (λ r. counts ≡ counts_of r counts.variables) → counts.variables ≡ variables_of s → IsCheckedFor number limits owns formulas m c
+  is-checked c counts kept told count =
+      let stand = printed-sections-stand (task_of (problem_of formulas) number) (answer_of s) (lines_of s) section.section form in
+      let own : c.counts.variables ≡ sections.variables_of (task_of (problem_of formulas) number) (answer_of s) (map line_text (lines_of s)) stand.section =
+      ap (λ (n : Counts). n.variables) kept.counted ∙ count ∙ section.counted ∙ sym stand.counted in
       record {
         lawful = subst (IsLawfulAnswer (declared_of owns) formulas) (sym kept.last) (kept-lawful owns formulas s over truth gives);
         sorts = kept.sorts;
         lines = map line_text (lines_of s);
         section = kept.text ∙ stand.bytes;
-        certified = λ limit. record {
-          section = subst (λ (a : Last). IsSection (task_of (problem_of formulas) number) (word_of a) (map line_text (lines_of s))) (sym kept.last) own;
-          apart = stand.apart;
-        };
+        certified = λ limit.
+            subst (λ (a : Last). IsCertified number (record { check = with_answer limit formulas a c.counts; lines = map line_text (lines_of s) })) (sym kept.last)
+            (kept-certified number limit c.counts owns formulas s (map line_text (lines_of s)) stand.section stand.apart own);
         metered = λ limit.
             subst (λ (a : Last). IsSomeAnd m.newest (IsRecordOf limits (with_answer limit formulas a c.counts))) (sym kept.last)
             (kept-record limit c.counts limits owns formulas s m limited settled
-            (subst (λ (n : Counts). IfSome m.newest (λ r. n ≡ counts_of r)) (sym kept.counted) told));
+            (subst (λ (n : Counts). IfSome m.newest (λ r. n ≡ counts_of r n.variables)) (sym kept.counted) told));
         unrefused = kept.unasked;
       }

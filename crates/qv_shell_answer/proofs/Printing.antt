@@ -21,7 +21,8 @@ use Rattle.qv_cert.specs.Faults.{belongs}
 use Rattle.qv_cert.specs.Section.{Task}
 use Rattle.qv_cert.specs.Shown.{AreRead, IsProof, IsSection}
 use Rattle.qv_cert.specs.TextLaws.{HasNoLf, bytes_of_lines}
-use Rattle.qv_solve_section.specs.Sections.{lines_with, IsProofOf, IsSectionOf}
+use Rattle.qv_solve_section.specs.Sections.{lines_with, variables_in, IsProofOf, IsSectionOf}
+use Rattle.qv_script_transcript.specs.Certificates.{variables_of}
 use Rattle.qv_script_transcript.specs.PrintedLines.{line_text}
 use Rattle.qv_script_transcript.proofs.PrintedLines.{printed-lines-stand}
 use Rattle.qv_shell_answer.specs.PrintedLaws.{PrintedSectionsStand}
@@ -112,6 +113,12 @@ section-printed task Unknown lines h form =
     subst (λ (ls : List CertLine). AreRead false (map line_text ls) (Check task.number Unknown ∷ End ∷ [])) (sym h)
     (outer-read (Check task.number Unknown ∷ End ∷ []) each (refl, (refl, tt)))
 
+counted-printed : (task : Task) (answer : Answer) (lines : List CertLine) (h : IsSectionOf task answer lines) (form : All IsCertLine lines) → variables_of task answer (map line_text lines) (section-printed task answer lines h form) ≡ variables_in task answer lines h
+unfolding section-printed proof-printed
+counted-printed task Sat lines h form = refl
+counted-printed task Unsat lines h form = refl
+counted-printed task Unknown lines h form = refl
+
 -- ---- bytes
 
 texts-apart : (lines : List CertLine) → AllByRecursion IsCertLine lines → AllByRecursion HasNoLf (map line_text lines)
@@ -134,6 +141,7 @@ printed-sections-stand task answer lines section form =
     let each = recursion_from_All IsCertLine lines form in
     record {
       section = section-printed task answer lines section form;
+      counted = counted-printed task answer lines section form;
       apart = All-from_recursion HasNoLf (map line_text lines) (texts-apart lines each);
       bytes = texts-bytes lines each;
     }

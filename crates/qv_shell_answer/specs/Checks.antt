@@ -84,8 +84,8 @@ spent_word kind.Variables = word.Variables
 
 -- an answer's lines can be printed, and its values are such of constants in force
 abbrev pub HaveFit : List Declared → Solved → Type 0
-HaveFit constants (solved.Sat section given) = All (Fit constants) given.items
-HaveFit constants (solved.Unsat section) = Unit {0}
+HaveFit constants (solved.Sat section given variables) = All (Fit constants) given.items
+HaveFit constants (solved.Unsat section variables) = Unit {0}
 HaveFit constants (solved.Unknown section kind) = Unit {0}
 
 pub record Suits (constants : List Declared) (s : Solved) : Type 0 where
@@ -95,8 +95,8 @@ pub record Suits (constants : List Declared) (s : Solved) : Type 0 where
 
 -- this is kept of an answer
 abbrev pub kept_of : List Declared → Solved → Last
-kept_of constants (solved.Sat section given) = Sat (filled (map (λ _. 0) constants) given.items)
-kept_of constants (solved.Unsat section) = Unsat
+kept_of constants (solved.Sat section given variables) = Sat (filled (map (λ _. 0) constants) given.items)
+kept_of constants (solved.Unsat section variables) = Unsat
 kept_of constants (solved.Unknown section kind) = Unknown (spent_word kind)
 
 pub record IsKept (constants : List Declared) (s : Solved) (counts : Counts) (c : Checked) : Type 0 where

@@ -24,14 +24,14 @@ IsLeft p (Sat values) r = r.kept ≡ None
 IsLeft p Unsat r = r.kept ≡ None
 IsLeft p (Unknown spent) r = IsSomeAnd r.kept (λ k. (k.problem ≡ p) × AreTallies r.conflicts k × IsWorked r k) × IsSpentIn (quantity_named spent) r
 
--- what a record counted
-abbrev pub counts_of : Record → Counts
-counts_of r = record { conflicts = r.conflicts; instances = r.instances }
+-- what a record counted, beside so many variables
+abbrev pub counts_of : Record → (variables : ℕ) → Counts
+counts_of r variables = record { conflicts = r.conflicts; instances = r.instances; variables = variables }
 
 -- the record of a check, with these limits
 pub record IsRecordOf (limits : Limits) (check : CheckSat) (r : Record) : Type 0 where
   pub limited : r.limits ≡ limits
-  pub counted : check.counts ≡ counts_of r
+  pub counted : check.counts ≡ counts_of r check.counts.variables
   pub left : IsLeft (problem_of check.formulas) check.answer r
 
 -- limits with at most so many conflicts; 0 leaves them as they are

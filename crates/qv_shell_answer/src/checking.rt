@@ -7,7 +7,7 @@ ghost use Rattle.qv_store.specs.Stores.{Grows};
 ghost use Rattle.qv_meter.specs.Records.{AreLimits};
 ghost use Rattle.qv_meter.specs.Views.{limits_of};
 ghost use Rattle.qv_script_stack.specs.Held.{HaveSorts, answer_of};
-ghost use Rattle.qv_solve.specs.Solutions.{HasRecord};
+ghost use Rattle.qv_solve.specs.Solutions.{HasRecord, variables_of};
 ghost use Rattle.qv_script_transcript.specs.Lawful.{prefix_length};
 ghost use Rattle.qv_solve_offer.specs.Sharing.{IsShared};
 ghost use Rattle.qv_shell_answer.specs.Checks.{CanCheck, formulas_in};
@@ -26,8 +26,8 @@ use qv_solve_offer::Shared;
 use qv_store::{Id, NoMemory, Store};
 use std::alloc::Global;
 
-/// What a check comes to: the answer that the script keeps, the text of its section, what it was
-/// charged for, and the line by which the checker refuses the section, if it was asked and does.
+/// What a check comes to: the answer that the script keeps, the text of its section, its counts, and
+/// the line by which the checker refuses the section, if it was asked and does.
 #[derive(Drop)]
 pub struct Checked {
     pub last: Last,
@@ -115,7 +115,7 @@ fn answer_once(
     let solved = solve_one(
         alloc, store, &formulas, &offered, number, places, limits, meter,
     )?;
-    let counts = counts_in(meter);
+    let counts = counts_in(meter, &solved);
     Ok(finish(alloc, script.constants(), &solved, counts)?)
 }
 
@@ -155,19 +155,34 @@ pub(crate) fn formulas_of(alloc: Global, script: &Script) -> Result<Vec<Id>, NoM
     Ok(formulas)
 }
 
-// What the newest record counts.
-fn counts_in(meter: &Meter) -> Counts
-    ensures { IfSome meter.now.newest (λ r. result ≡ counts_of r) }
+// What the newest record counts, and the greatest variable of an answer's clauses.
+fn counts_in(meter: &Meter, solved: &Solved) -> Counts
+    ensures newest { IfSome meter.now.newest (λ r. result ≡ counts_of r result.variables) }
+    ensures variables { result.variables ≡ variables_of solved.now }
 {
+    let variables = variables_of(solved);
     match meter.newest() {
         Some(record) => Counts {
             conflicts: record.conflicts,
             instances: record.instances,
+            variables,
         },
         None => Counts {
             conflicts: 0,
             instances: 0,
+            variables,
         },
+    }
+}
+
+// The greatest variable of the clauses that the section of an answer refutes.
+fn variables_of(solved: &Solved) -> u32
+    ensures { result ≡ variables_of solved.now }
+{
+    match solved {
+        Solved::Sat { variables, .. } => *variables,
+        Solved::Unsat { variables, .. } => *variables,
+        Solved::Unknown { .. } => 0,
     }
 }
 

@@ -27,7 +27,7 @@ fn lines_of(solved: &Solved) -> &[Line]
 {
     match solved {
         Solved::Sat { section, .. } => &section.lines,
-        Solved::Unsat { section } => &section.lines,
+        Solved::Unsat { section, .. } => &section.lines,
         Solved::Unknown { section, .. } => &section.lines,
     }
 }

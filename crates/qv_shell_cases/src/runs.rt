@@ -6,7 +6,7 @@ use qv_cases_runs::{
 };
 use qv_io::{MemSink, MemSource, Sink, Source, StdSink, StdSource};
 use qv_meter::Meter;
-use qv_shell::{Plan, Status, plan, run};
+use qv_shell::{Nobody, Plan, Status, plan, run};
 use std::alloc::Global;
 use std::io::{self, ErrorKind};
 use std::str;
@@ -21,7 +21,16 @@ fn status_of<S: Source, C: Source, O: Sink, P: Sink>(
     cert_out: &mut P,
 ) -> Status {
     let mut meter = Meter::new(alloc);
-    run(alloc, words, script, cert_in, out, cert_out, &mut meter)
+    run(
+        alloc,
+        words,
+        script,
+        cert_in,
+        out,
+        cert_out,
+        &mut meter,
+        &mut Nobody,
+    )
 }
 
 /// Runs `solve` on a script: the status, what is written, the calls of the source and the sink, and

@@ -17,6 +17,7 @@ ghost use Rattle.qv_shell_follow.specs.Ending.{run_status};
 ghost use Rattle.qv_shell_command.specs.Moves.{StandsFor};
 ghost use Rattle.qv_shell_follow.specs.Between.{fresh, WritesPart, end_after};
 
+use crate::watching::{Watch, tell};
 use qv_io::{Sink, Source, put_all};
 use qv_meter::{Limits, Meter};
 use qv_sexpr::Reader;
@@ -36,8 +37,9 @@ const HEADER: &[u8] = b"qbv-cert 2\n";
 /// Follows a script command by command to its end. Each check within the limit on prefixes is
 /// answered, with a record of the meter; its section is written before its answer is printed, and
 /// the first line of the certificate before the first command is read. With `rechecks` the checker
-/// looks at each section before it is written.
-pub fn solve<S: Source, O: Sink, P: Sink>(
+/// looks at each section before it is written. Behind each command `watch` is told of the newest
+/// check.
+pub fn solve<S: Source, O: Sink, P: Sink, W: Watch>(
     alloc: Global,
     places: u32,
     limits: Limits,
@@ -46,6 +48,7 @@ pub fn solve<S: Source, O: Sink, P: Sink>(
     out: &mut O,
     cert: &mut P,
     meter: &mut Meter,
+    watch: &mut W,
 ) -> Result<Followed, Halt>
     requires { AreLimits (limits_of limits) }
 
@@ -82,11 +85,12 @@ pub fn solve<S: Source, O: Sink, P: Sink>(
         out,
         cert,
         meter,
+        watch,
     )
 }
 
 // The same with a reader and a course, to which nothing has happened.
-fn follow<S: Source, O: Sink, P: Sink>(
+fn follow<S: Source, O: Sink, P: Sink, W: Watch>(
     alloc: Global,
     places: u32,
     limits: Limits,
@@ -97,6 +101,7 @@ fn follow<S: Source, O: Sink, P: Sink>(
     out: &mut O,
     cert: &mut P,
     meter: &mut Meter,
+    watch: &mut W,
 ) -> Result<Followed, Halt>
     requires limits { AreLimits (limits_of limits) }
     requires fresh { reader.old ≡ fresh }
@@ -125,7 +130,7 @@ fn follow<S: Source, O: Sink, P: Sink>(
                 let tally = course.tally;
                 return Ok(Followed { ending, tally });
             }
-            None => (),
+            None => tell(watch, course),
         }
     }
 }

@@ -3,6 +3,9 @@
 #![tactic(auto)]
 
 mod following;
+mod watching;
 
 pub use following::{Followed, solve};
+pub use qv_script::{Counts, Last};
 pub use qv_shell_command::{Ending, Halt, Tally};
+pub use watching::{Nobody, Watch};

@@ -16,10 +16,10 @@ pub use files::{
     Text, if_open, is_input, lent, make_anew, make_cert, not_twice, open_text, output_identity,
 };
 pub use identity::Identity;
-pub use pace::{Pace, Paced, with_pace};
+pub use pace::Pace;
 pub use report::{
-    Charged, Report, Subject, fault_of, no_memory, unread_script, unread_text, unwritten_output,
-    unwritten_text,
+    Charged, Report, Subject, Told, fault_of, no_memory, unread_script, unread_text,
+    unwritten_output, unwritten_text,
 };
 pub use tail::{Tailed, with_tail};
 pub use trail::{Traced, with_trail};

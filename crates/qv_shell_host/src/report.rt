@@ -2,7 +2,6 @@
 ghost use Rattle.std.specs.Prelude.{◌≡◌, ◌≤◌, ◌↔◌, Some, None, IsSome, IfSome};
 ghost use Rattle.std.specs.IoError.{error_kind};
 
-use crate::claims::Verdict;
 use crate::tail::{Tail, Tailed};
 use crate::trail::{Traced, Trail};
 use std::alloc::Global;
@@ -148,12 +147,23 @@ fn place_of(alloc: Global, trail: &Trail, tail: &Tail) -> Option<String> {
     Some(text)
 }
 
-/// What was charged for the checks of a run.
+/// What was charged for the checks of a run, and the sum of their variables, where they were told.
 #[derive(Clone, Copy)]
 pub struct Charged {
     pub checks: u64,
     pub conflicts: u64,
     pub instances: u64,
+    pub variables: Option<u64>,
+}
+
+/// What is told of a check: its number, its answer, and its counts.
+#[derive(Clone, Copy)]
+pub struct Told {
+    pub check: u64,
+    pub answer: &'static str,
+    pub conflicts: u64,
+    pub instances: u64,
+    pub variables: u32,
 }
 
 /// Standard error, where it is open.
@@ -218,11 +228,20 @@ impl Report {
         }
     }
 
-    /// Says the answer to the newest check, and how many seconds passed.
-    pub(crate) fn progress(&self, check: u64, answer: Verdict, seconds: u64) {
+    /// Says what is told of the newest check, and how many seconds passed.
+    pub(crate) fn progress(&self, told: Told, seconds: u64) {
         if let Ok(to) = &self.to {
-            let answer = answer.name();
-            let _ = eprintln!(to; "qbv: check {check} is {answer}, {seconds} seconds");
+            let Told {
+                check,
+                answer,
+                conflicts,
+                instances,
+                variables,
+            } = told;
+            let _ = eprintln!(to;
+                "qbv: check {check} is {answer}, {conflicts} conflicts, {instances} instances, \
+                {variables} variables, {seconds} seconds"
+            );
         }
     }
 
@@ -239,6 +258,9 @@ impl Report {
         }
         self.count("conflicts", charged.conflicts);
         self.count("instances", charged.instances);
+        if let Some(variables) = charged.variables {
+            self.count("variables", variables);
+        }
     }
 
     // Says a count.

@@ -93,15 +93,15 @@ newest-has : (o : Option Record) (r : Record) (P : Record → Type 0) → o ≡ 
 newest-has o r P is h = subst (λ (q : Option Record). IsSomeAnd q P) is h
 
 settled-left : (p : Problem) (m : Metering) (count : ℕ) (s : Solved) (r : Record) → m.newest ≡ Some r → IsSettled p m s → IsLeft p (answer_in count s) r
-settled-left p m count (solved.Sat section given) r is h = newest-has m.newest r (λ (x : Record). x.kept ≡ None) is h
-settled-left p m count (solved.Unsat section) r is h = newest-has m.newest r (λ (x : Record). x.kept ≡ None) is h
+settled-left p m count (solved.Sat section given variables) r is h = newest-has m.newest r (λ (x : Record). x.kept ≡ None) is h
+settled-left p m count (solved.Unsat section variables) r is h = newest-has m.newest r (λ (x : Record). x.kept ≡ None) is h
 settled-left p m count (solved.Unknown section k) r is h = spent-left p k r (newest-has m.newest r (λ (x : Record). IsSomeAnd x.kept (WorkedSpent p k x)) is h)
 
 -- ---- the answer
 
 word-is : (count : ℕ) (s : Solved) → word_of (answer_in count s) ≡ answer_of s
-word-is count (solved.Sat section given) = refl
-word-is count (solved.Unsat section) = refl
+word-is count (solved.Sat section given variables) = refl
+word-is count (solved.Unsat section variables) = refl
 word-is count (solved.Unknown section k) = refl
 
 module _ (places : ℕ) (limits : Limits) (prefix : List Quantified) (clauses : List (List Literal)) (once : AreOnce (variables_of prefix)) where
@@ -112,13 +112,13 @@ module _ (places : ℕ) (limits : Limits) (prefix : List Quantified) (clauses : 
   count = length (outer_of prefix clauses)
 
   is-right : (s : Solved) → IsAnswerOf formulas (answer_of s) → GivesConstants formulas s → IsRight prefix clauses (answer_in count s)
-  is-right (solved.Sat section given) truth gives = (values-each prefix clauses given.items gives, values-hold prefix clauses given.items gives once)
-  is-right (solved.Unsat section) truth gives = λ holds. truth ((truth-kept prefix clauses once).1 holds)
+  is-right (solved.Sat section given variables) truth gives = (values-each prefix clauses given.items gives, values-hold prefix clauses given.items gives once)
+  is-right (solved.Unsat section variables) truth gives = λ holds. truth ((truth-kept prefix clauses once).1 holds)
   is-right (solved.Unknown section k) truth gives = tt
 
   have-fit : (s : Solved) → GivesConstants formulas s → HaveFit count s
-  have-fit (solved.Sat section given) gives = constants-fit prefix clauses given.items gives
-  have-fit (solved.Unsat section) gives = tt
+  have-fit (solved.Sat section given variables) gives = constants-fit prefix clauses given.items gives
+  have-fit (solved.Unsat section variables) gives = tt
   have-fit (solved.Unknown section k) gives = tt
 
   -- a reply can be put together

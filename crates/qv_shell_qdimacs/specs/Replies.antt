@@ -53,14 +53,14 @@ IsHalted call left limits rose source later before after NoMemory = HasTried lim
 
 -- what is answered, where there are so many outer variables
 abbrev pub answer_in : (count : ℕ) → Solved → FileAnswer
-answer_in count (solved.Sat section given) = Sat (filled (replicate count false) given.items)
-answer_in count (solved.Unsat section) = Unsat
+answer_in count (solved.Sat section given variables) = Sat (filled (replicate count false) given.items)
+answer_in count (solved.Unsat section variables) = Unsat
 answer_in count (solved.Unknown section spent) = Unknown spent
 
 -- each constant that has a value is one of so many
 abbrev pub HaveFit : (count : ℕ) → Solved → Type 0
-HaveFit count (solved.Sat section given) = All (λ v. v.index < count) given.items
-HaveFit count (solved.Unsat section) = Unit {0}
+HaveFit count (solved.Sat section given variables) = All (λ v. v.index < count) given.items
+HaveFit count (solved.Unsat section variables) = Unit {0}
 HaveFit count (solved.Unknown section spent) = Unit {0}
 
 -- a reply is put together from an answer to a file with these outer variables

@@ -3,7 +3,7 @@ use qv_cases_rows::Answer;
 use qv_cases_runs::{Budgets, Given, add_bytes, solve_words};
 use qv_io::{Sink, Source};
 use qv_meter::Meter;
-use qv_shell::{Status, run};
+use qv_shell::{Nobody, Status, run};
 use std::alloc::Global;
 
 /// How a run ended, what it printed, and its certificate.
@@ -64,5 +64,14 @@ fn status_of<S: Source, C: Source, O: Sink, P: Sink>(
     cert_out: &mut P,
 ) -> Status {
     let mut meter = Meter::new(alloc);
-    run(alloc, words, script, cert_in, out, cert_out, &mut meter)
+    run(
+        alloc,
+        words,
+        script,
+        cert_in,
+        out,
+        cert_out,
+        &mut meter,
+        &mut Nobody,
+    )
 }

@@ -33,8 +33,8 @@ answer-true fs answer.Unknown both h = tt
 
 pub gives-constants : (fs : List Tree) (s : Solved) → HaveOneSort fs → ((c : List ℕ) → HasConstantsOf c fs → WinsFrom (problem_of fs) Existential (values_for (map (λ k. k.0) (in_order (constants_of_each fs))) c) ↔ HoldUnder c fs) →
     GivesValues (problem_of fs) (map (λ k. k.0) (in_order (constants_of_each fs))) s → GivesConstants fs s
-gives-constants fs (Sat section constants) one under h = constants-of fs constants.items one h under
-gives-constants fs (Unsat section) one under h = tt
+gives-constants fs (Sat section constants variables) one under h = constants-of fs constants.items one h under
+gives-constants fs (Unsat section variables) one under h = tt
 gives-constants fs (Unknown section kind) one under h = tt
 
 -- what is drawn stays so where the record is settled
@@ -47,8 +47,8 @@ pub solution-settled : (p : Problem) (number : ℕ) (indices : List ℕ) (b c : 
 solution-settled p number indices b c s is h = record { section = h.section; form = h.form; holds = h.holds; drawn = drawn-settled p number (answer_of s) (lines_of s) b c is h.drawn; values = h.values }
 
 pub known-settled : (p : Problem) (m : Metering) (s : Solved) → IsKnown s → IsSomeAnd m.newest (λ (r : Record). r.kept ≡ None) → IsSettled p m s
-known-settled p m (Sat section constants) k h = h
-known-settled p m (Unsat section) k h = h
+known-settled p m (Sat section constants variables) k h = h
+known-settled p m (Unsat section variables) k h = h
 known-settled p m (Unknown section kind) k h = absurd k
 
 -- ---- where the meter is spent
@@ -67,13 +67,13 @@ unknown-lines number kind none first all own e f g =
     )
 
 pub unknown-solution : (p : Problem) (number : ℕ) (indices : List ℕ) (kind : SpentKind) (m : Metering) (s : Solved) → IsUnknownOf number kind s → IsSolution p number indices m s
-unknown-solution p number indices kind m (Sat section constants) h = absurd h
-unknown-solution p number indices kind m (Unsat section) h = absurd h
-unknown-solution p number indices kind m (Unknown section spent) h = record { section = h.1; form = h.2; holds = tt; drawn = tt; values = tt }
+unknown-solution p number indices kind m (Sat section constants variables) h = absurd h
+unknown-solution p number indices kind m (Unsat section variables) h = absurd h
+unknown-solution p number indices kind m (Unknown section spent) h = record { section = record { section = h.1; counted = refl }; form = h.2; holds = tt; drawn = tt; values = tt }
 
 pub unknown-settled : (p : Problem) (number : ℕ) (kind : SpentKind) (m : Metering) (s : Solved) → IsUnknownOf number kind s → IsUnknown p kind m → IsSettled p m s
-unknown-settled p number kind m (Sat section constants) h k = absurd h
-unknown-settled p number kind m (Unsat section) h k = absurd h
+unknown-settled p number kind m (Sat section constants variables) h k = absurd h
+unknown-settled p number kind m (Unsat section variables) h k = absurd h
 unknown-settled p number kind m (Unknown section spent) h k = subst (λ (x : SpentKind). IsUnknown p x m) (sym h.0) k
 
 -- ---- results

@@ -25,15 +25,21 @@ use Rattle.qv_solve.specs.declared.solved.Solved.{Solved}
 use Rattle.qv_solve.specs.declared.solved.Solved.TheVariants.{Sat, Unsat, Unknown}
 
 abbrev pub answer_of : Solved → Answer
-answer_of (Sat section constants) = answer.Sat
-answer_of (Unsat section) = answer.Unsat
+answer_of (Sat section constants variables) = answer.Sat
+answer_of (Unsat section variables) = answer.Unsat
 answer_of (Unknown section kind) = answer.Unknown
 
 -- the lines of its section
 abbrev pub lines_of : Solved → List CertLine
-lines_of (Sat section constants) = lines_said section.lines.items
-lines_of (Unsat section) = lines_said section.lines.items
+lines_of (Sat section constants variables) = lines_said section.lines.items
+lines_of (Unsat section variables) = lines_said section.lines.items
 lines_of (Unknown section kind) = lines_said section.lines.items
+
+-- the greatest variable of the clauses that it refutes, 0 where it refutes none
+abbrev pub variables_of : Solved → ℕ
+variables_of (Sat section constants variables) = variables
+variables_of (Unsat section variables) = variables
+variables_of (Unknown section kind) = 0
 
 -- what an answer says of formulas
 abbrev pub IsAnswerOf : List Tree → Answer → Type 0
@@ -79,8 +85,8 @@ pub record AreConstantsOf (formulas : List Tree) (values : List ConstValue) : Ty
   pub hold : (c : List ℕ) → HasValuesOf c values → HoldUnder c formulas
 
 abbrev pub GivesConstants : List Tree → Solved → Type 0
-GivesConstants formulas (Sat section constants) = AreConstantsOf formulas constants.items
-GivesConstants formulas (Unsat section) = Unit {0}
+GivesConstants formulas (Sat section constants variables) = AreConstantsOf formulas constants.items
+GivesConstants formulas (Unsat section variables) = Unit {0}
 GivesConstants formulas (Unknown section kind) = Unit {0}
 
 -- ---- the meter
@@ -96,6 +102,6 @@ IsUnknown p kind m = OfNewest m (λ r k. (k.problem ≡ p) × AreTallies r.confl
 
 -- behind a sat or unsat answer the record keeps no problem; behind an unknown one it keeps it, spent
 abbrev pub IsSettled : Problem → Metering → Solved → Type 0
-IsSettled p m (Sat section constants) = IsSomeAnd m.newest (λ r. r.kept ≡ None)
-IsSettled p m (Unsat section) = IsSomeAnd m.newest (λ r. r.kept ≡ None)
+IsSettled p m (Sat section constants variables) = IsSomeAnd m.newest (λ r. r.kept ≡ None)
+IsSettled p m (Unsat section variables) = IsSomeAnd m.newest (λ r. r.kept ≡ None)
 IsSettled p m (Unknown section kind) = IsUnknown p kind m

@@ -120,7 +120,7 @@ fn answer_sat(
 {
     let drawn = draw_terms(alloc, store, problem, entries)?;
     let values = constants(alloc, store, problem, &drawn.terms)?;
-    let lines = close(
+    let closing = close(
         alloc,
         store,
         problem,
@@ -131,8 +131,11 @@ fn answer_sat(
         meter,
     )?;
     Ok(Solved::Sat {
-        section: Section { lines },
+        section: Section {
+            lines: closing.lines,
+        },
         constants: values,
+        variables: closing.variables,
     })
 }
 
@@ -163,7 +166,7 @@ fn answer_unsat(
     ensures grows { Grows store.old store.new }
 {
     let written = draw_lines(alloc, store, problem, entries, meter)?;
-    let lines = close(
+    let closing = close(
         alloc,
         store,
         problem,
@@ -174,6 +177,9 @@ fn answer_unsat(
         meter,
     )?;
     Ok(Solved::Unsat {
-        section: Section { lines },
+        section: Section {
+            lines: closing.lines,
+        },
+        variables: closing.variables,
     })
 }

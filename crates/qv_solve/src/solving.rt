@@ -12,9 +12,9 @@ ghost use Rattle.qv_meter.specs.Views.{limits_of};
 ghost use Rattle.qv_cert.specs.Line.{IsCertLine, IsNumber};
 ghost use Rattle.qv_game.specs.Starting.{IsUncharged};
 ghost use Rattle.qv_solve_draw.specs.Values.{AreExistential};
-ghost use Rattle.qv_solve_section.specs.Sections.{task_of, IsSectionOf};
-ghost use Rattle.qv_solve.specs.Solutions.{answer_of, lines_of, GivesConstants, HasRecord};
-ghost use Rattle.qv_solve.specs.Solutions.{IsAnswerOf, IsDrawn, IsSettled};
+ghost use Rattle.qv_solve_section.specs.Sections.{task_of, IsCounted, IsSectionOf};
+ghost use Rattle.qv_solve.specs.Solutions.{answer_of, lines_of, variables_of, GivesConstants};
+ghost use Rattle.qv_solve.specs.Solutions.{HasRecord, IsAnswerOf, IsDrawn, IsSettled};
 ghost use Rattle.qv_solve.specs.Answering.{IsSolution, IsUnknownOf, KeepsRecords};
 
 use crate::answering::answer;
@@ -52,10 +52,14 @@ pub fn solve_one(
     requires number { number < 2 ^ 62 }
     requires limits { AreLimits (limits_of limits) }
 
-    // The lines are a section of the answer, as it is accepted, and can be printed.
+    // The lines are a section of the answer, as it is accepted, which has so many variables, and
+    // can be printed.
     ensures section { IfOk result (λ s. IsSectionOf
         (task_of (problem_of (map (tree_at store.old) assertions.now)) number)
         (answer_of s) (lines_of s)) }
+    ensures counted { IfOk result (λ s. IsCounted
+        (task_of (problem_of (map (tree_at store.old) assertions.now)) number)
+        (answer_of s) (lines_of s) (variables_of s)) }
     ensures form { IfOk result (λ s. All IsCertLine (lines_of s)) }
 
     // What the answer says is so.

@@ -30,7 +30,7 @@ pub fn say_solved(
             out.say("sat, ");
             say_section(alloc, out, asked, Answer::Sat, section);
         }
-        Ok(Solved::Unsat { section }) => {
+        Ok(Solved::Unsat { section, .. }) => {
             out.say("unsat, ");
             say_section(alloc, out, asked, Answer::Unsat, section);
         }

@@ -35,7 +35,7 @@ pub(crate) fn try_list(
     ensures grows { Grows store.old store.new }
 {
     match solve_one(alloc, store, list, &[], 1, MOST_PLACES, limits, meter) {
-        Ok(Solved::Unsat { section }) => Ok(Some(section)),
+        Ok(Solved::Unsat { section, .. }) => Ok(Some(section)),
         Ok(_) => Ok(None),
         // Such a list has no more places than all formulas, which have fewer than 2^32.
         Err(SolveFault::PrefixLimit) => unreachable!(),

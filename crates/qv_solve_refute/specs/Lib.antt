@@ -1,4 +1,5 @@
 -- what public contracts cite
 pub mod Refuting
+pub mod Greatest
 -- the inside
 pub mod Feeding

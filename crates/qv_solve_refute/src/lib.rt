@@ -2,8 +2,9 @@
 #![tactic(auto)]
 
 mod feeding;
+mod greatest;
 mod laying;
 mod refuting;
 mod trying;
 
-pub use refuting::{Refutation, refute};
+pub use refuting::{Refutation, Refuted, refute};

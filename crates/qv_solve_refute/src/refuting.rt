@@ -16,9 +16,11 @@ ghost use Rattle.qv_cert.specs.ClauseList.{clause_list, variables_of};
 ghost use Rattle.qv_solve_refute.specs.Refuting.{IsCharged, IsForFinal, IsFree, IsMeasured};
 ghost use Rattle.qv_solve_refute.specs.Refuting.{IsSpentBy};
 ghost use Rattle.qv_solve_refute.specs.Refuting.{found_in, laid_in, steps_in, variable_limit};
+ghost use Rattle.qv_solve_refute.specs.Greatest.{greatest_variable};
 ghost use Rattle.qv_solve_refute.specs.Feeding.{listed_in};
 
 use crate::feeding::blast;
+use crate::greatest::greatest_variable;
 use crate::laying::{close_list, laid_list};
 use crate::trying::refutes;
 use qv_closed::{Closed, Laid, have_ids};
@@ -61,6 +63,13 @@ impl Refutation {
     }
 }
 
+/// A refutation, and the greatest variable of the clauses that it refutes.
+#[derive(Drop)]
+pub struct Refuted {
+    pub refutation: Refutation,
+    pub variables: u32,
+}
+
 /// A refutation of the clauses of the newest record's final list. Steps that were noted are tried
 /// first, and then those of closure on gates. Where neither serve, a core searches behind the
 /// latter, and its conflicts are charged to the final lane.
@@ -70,13 +79,16 @@ pub fn refute(
     list: &[Id],
     noted: &[Step],
     meter: &mut Meter,
-) -> Result<Refutation, PlayFault>
+) -> Result<Refuted, PlayFault>
     requires below { All (λ id. id < length store.now) list.now }
     requires owed { IsForFinal meter.old (named store.now list.now) }
     ensures refutes { IfOk result (λ found. Refutes (clause_list (named store.now list.now))
-        (steps_in (lines_of noted.now) found)) }
+        (steps_in (lines_of noted.now) found.refutation)) }
     ensures few { OnOk result (variables_of (named store.now list.now) ≤ 2 ^ 30) }
-    ensures ids { IfOk result (λ found. All HasIds (steps_in (lines_of noted.now) found)) }
+    ensures ids { IfOk result (λ found.
+        All HasIds (steps_in (lines_of noted.now) found.refutation)) }
+    ensures greatest { IfOk result (λ found. found.variables
+        ≡ greatest_variable (clause_list (named store.now list.now))) }
     ensures charged { IsCharged meter.old meter.new result }
     ensures spent { IfErr result (IsSpentBy meter.new) }
     ensures variables { IsMeasured meter.old (named store.now list.now) result }
@@ -84,8 +96,10 @@ pub fn refute(
     // Noted steps that refute the clauses, with ids that can be written, are taken. Nothing is
     // charged where nothing was searched.
     ensures noted { IfOk result (λ found. Refutes (clause_list (named store.now list.now))
-        (lines_of noted.now) → All HasIds (lines_of noted.now) → found ≡ Refutation.Noted) }
-    ensures free { IfOk result (λ found. IsFree found → meter.new ≡ in_lane Final meter.old) }
+        (lines_of noted.now) → All HasIds (lines_of noted.now) →
+        found.refutation ≡ Refutation.Noted) }
+    ensures free { IfOk result (λ found.
+        IsFree found.refutation → meter.new ≡ in_lane Final meter.old) }
 {
     meter.lane(Lane::Final);
     let limit = variable_limit(meter);
@@ -93,8 +107,13 @@ pub fn refute(
         let _spent = meter.variables(store, list);
         return Err(PlayFault::Spent(SpentKind::Variables));
     };
-    let found = refutation_of(alloc, blaster.clauses(), noted, meter)?;
-    Ok(found)
+    let clauses = blaster.clauses();
+    let variables = greatest_variable(clauses)?;
+    let refutation = refutation_of(alloc, clauses, noted, meter)?;
+    Ok(Refuted {
+        refutation,
+        variables,
+    })
 }
 
 // A refutation of clauses that have no model, by the noted steps, by closure or by a search.

@@ -7,15 +7,17 @@ use Rattle.qv_words.specs.declared.rule.Rule.{Rule}
 use Rattle.qv_words.specs.Tree.{Tree}
 use Rattle.qv_words.specs.Problem.{Problem}
 use Rattle.qv_words.specs.Passes.{pass, passes, passes_by, rules_in_order}
+use Rattle.qv_cert.specs.ClauseList.{clause_list}
 use Rattle.qv_cert.specs.Line.{CertLine}
 use Rattle.qv_cert.specs.Listed.{Listed, listed_by}
 use Rattle.qv_cert.specs.Section.{first_list, is_missing}
 use Rattle.qv_cert.specs.Shown.{IsListOf, last_list}
 use Rattle.qv_cert_formulas.specs.Starts.{MayStart}
 use Rattle.qv_solve_write_laws.specs.WritingLaws.{AreLinesOf}
+use Rattle.qv_solve_refute.specs.Greatest.{greatest_variable}
 use Rattle.qv_solve_section.specs.Changes.{AreChanges}
 use Rattle.qv_solve_section.specs.SectionLaws.{ChangesAreAllPasses}
-use Rattle.qv_solve_section.specs.Sections.{formulas_of, task_of, IsClosed, IsProofOf, IsRefuted, IsSectionOf}
+use Rattle.qv_solve_section.specs.Sections.{formulas_of, task_of, IsClosed, IsCounted, IsProofOf, IsRefuted}
 use Rattle.qv_cert.proofs.Accepting.{not-missing}
 
 -- ---- a section that may start
@@ -52,10 +54,19 @@ proof-of p number answer given lines own listed h =
       refuted = subst (λ (fs : List Tree). IsRefuted number answer given h.rules fs lines) same h.refuted;
     }
 
-section-of : (p : Problem) (number : ℕ) (answer : Answer) (given lines : List CertLine) → AreLinesOf p answer given → IsListOf p answer (listed_by p given) → IsClosed p number answer given lines → IsSectionOf (task_of p number) answer lines
-section-of p number Sat given lines own listed h = proof-of p number Sat given lines own listed h
-section-of p number Unsat given lines own listed h = proof-of p number Unsat given lines own listed h
-section-of p number Unknown given lines own listed h = absurd listed
+-- with the greatest variable of its clauses
+counted-of : (p : Problem) (number : ℕ) (answer : Answer) (given lines : List CertLine) (variables : ℕ) → AreLinesOf p answer given → IsListOf p answer (listed_by p given) → IsClosed p number answer given lines
+    → variables ≡ greatest_variable (clause_list (passes (formulas_of p answer given))) → IsCounted (task_of p number) answer lines variables
+unfolding proof-of
+counted-of p number Sat given lines variables own listed h count = record {
+  section = proof-of p number Sat given lines own listed h;
+  counted = count ∙ ap (λ (fs : List Tree). greatest_variable (clause_list fs)) (sym (changes-pass rules_in_order h.rules (formulas_of p Sat given) h.changes));
+}
+counted-of p number Unsat given lines variables own listed h count = record {
+  section = proof-of p number Unsat given lines own listed h;
+  counted = count ∙ ap (λ (fs : List Tree). greatest_variable (clause_list fs)) (sym (changes-pass rules_in_order h.rules (formulas_of p Unsat given) h.changes));
+}
+counted-of p number Unknown given lines variables own listed h count = absurd listed
 
 -- ---- of an answer that may be a fault
 
@@ -69,7 +80,10 @@ closed-ok said p number answer given l rules last (Ok x) same changes is h = rec
   refuted = subst (λ (fs : List Tree). IsRefuted number answer given rules fs (said x)) (is ∙ ap (λ (k : Listed). passes (first_list p answer k)) same) h;
 }
 
-pub section-ok : {A B : Type 0} (said : A → List CertLine) (p : Problem) (number : ℕ) (answer : Answer) (given : List CertLine) (r : Result A B) → AreLinesOf p answer given → IsListOf p answer (listed_by p given)
-    → IfOk r (λ x. IsClosed p number answer given (said x)) → IfOk r (λ x. IsSectionOf (task_of p number) answer (said x))
-section-ok said p number answer given (Err f) own listed h = tt
-section-ok said p number answer given (Ok x) own listed h = section-of p number answer given (said x) own listed h
+pub counted-ok : {A B : Type 0} (said : A → List CertLine) (variables : A → ℕ) (p : Problem) (number : ℕ) (answer : Answer) (given : List CertLine) (l : Listed) (last : List Tree) (r : Result A B) → l ≡ listed_by p given
+    → last ≡ passes (first_list p answer l) → AreLinesOf p answer given → IsListOf p answer (listed_by p given)
+    → IfOk r (λ x. IsClosed p number answer given (said x)) → IfOk r (λ x. variables x ≡ greatest_variable (clause_list last)) → IfOk r (λ x. IsCounted (task_of p number) answer (said x) (variables x))
+counted-ok said variables p number answer given l last (Err f) same is own listed h count = tt
+counted-ok said variables p number answer given l last (Ok x) same is own listed h count =
+    counted-of p number answer given (said x) (variables x) own listed h
+    (count ∙ ap (λ (fs : List Tree). greatest_variable (clause_list fs)) (is ∙ ap (λ (k : Listed). passes (first_list p answer k)) same))

@@ -14,6 +14,7 @@ use Rattle.qv_cert.specs.Listed.{listed_by, nothing}
 use Rattle.qv_cert.specs.Faults.{belongs}
 use Rattle.qv_cert.specs.Section.{Task, first_list}
 use Rattle.qv_cert.specs.Shown.{HaveNoFault, IsListOf, last_list}
+use Rattle.qv_solve_refute.specs.Greatest.{greatest_variable}
 use Rattle.qv_solve_section.specs.Changes.{AreChanges}
 
 -- the formulas that lines stand for which list
@@ -52,6 +53,17 @@ abbrev pub IsSectionOf : Task → Answer → List CertLine → Type 0
 IsSectionOf task Sat lines = IsProofOf task Sat lines
 IsSectionOf task Unsat lines = IsProofOf task Unsat lines
 IsSectionOf task Unknown lines = lines ≡ Check task.number Unknown ∷ End ∷ []
+
+-- the greatest variable of the clauses that a section refutes; an unknown one refutes none
+abbrev pub variables_in : (task : Task) (answer : Answer) (lines : List CertLine) → IsSectionOf task answer lines → ℕ
+variables_in task Sat lines proof = greatest_variable (clause_list (last_list task.problem Sat proof.given proof.rules))
+variables_in task Unsat lines proof = greatest_variable (clause_list (last_list task.problem Unsat proof.given proof.rules))
+variables_in task Unknown lines is = 0
+
+-- the lines are a section of the answer, and this is its greatest variable
+pub record IsCounted (task : Task) (answer : Answer) (lines : List CertLine) (variables : ℕ) : Type 0 where
+  pub section : IsSectionOf task answer lines
+  pub counted : variables ≡ variables_in task answer lines section
 
 -- of the second version of certificates
 abbrev pub task_of : Problem → ℕ → Task

@@ -5,6 +5,7 @@ ghost use Rattle.qv_words.specs.Passes.{passes, rules_in_order};
 ghost use Rattle.qv_store.specs.Stores.{Grows};
 ghost use Rattle.qv_store.specs.Walks.{named};
 ghost use Rattle.qv_store.specs.Problems.{problem_in, IsPosedIn};
+ghost use Rattle.qv_cert.specs.ClauseList.{clause_list};
 ghost use Rattle.qv_cert.specs.Line.{IsCertLine, IsNumber};
 ghost use Rattle.qv_cert.specs.Listed.{listed_by};
 ghost use Rattle.qv_cert.specs.Section.{first_list};
@@ -13,11 +14,12 @@ ghost use Rattle.qv_cert_nodes.specs.Lists.{listed_in, IsListed};
 ghost use Rattle.qv_cert_nodes.specs.Pushing.{Lists};
 ghost use Rattle.qv_solve_write.specs.Said.{lines_said};
 ghost use Rattle.qv_solve_write_laws.specs.WritingLaws.{AreLinesOf};
+ghost use Rattle.qv_solve_refute.specs.Greatest.{greatest_variable};
 ghost use Rattle.qv_solve_refute.specs.Refuting.{IsCharged, IsForFinal, IsMeasured, IsSpentBy};
 ghost use Rattle.qv_solve_section.specs.Changes.{AreChanges};
 ghost use Rattle.qv_solve_section.specs.Rewriting.{AreFormulas};
 ghost use Rattle.qv_solve_section.specs.Sections.{formulas_of, task_of};
-ghost use Rattle.qv_solve_section.specs.Sections.{IsClosed, IsRefuted, IsSectionOf};
+ghost use Rattle.qv_solve_section.specs.Sections.{IsClosed, IsCounted, IsRefuted};
 
 use crate::lines::section_lines;
 use crate::rewriting::{Rewritten, rewrite_all};
@@ -32,6 +34,13 @@ use qv_store::{Id, NoMemory, Problem, Store};
 use qv_words::Answer;
 use std::alloc::Global;
 
+/// The lines of a section, and the greatest variable of the clauses that it refutes.
+#[derive(Drop)]
+pub struct Closing {
+    pub lines: Vec<Line>,
+    pub variables: u32,
+}
+
 /// The lines of the section of this number and answer, where these list Skolem terms or an
 /// expansion list: the rules whose passes change its formulas, and a refutation of their clauses.
 /// Steps that were noted before are tried for it first; the conflicts of a search are charged to
@@ -45,7 +54,7 @@ pub fn close(
     written: Writing,
     noted: &[Step],
     meter: &mut Meter,
-) -> Result<Vec<Line>, PlayFault>
+) -> Result<Closing, PlayFault>
     requires posed { IsPosedIn store.old problem.now }
     requires number { IsNumber number }
 
@@ -61,11 +70,12 @@ pub fn close(
     // The newest record's play has this final list.
     requires owed { IsForFinal meter.old (passes (formulas_of (problem_in store.old problem.now)
         answer (lines_said written.lines.items))) }
-    ensures closed { IfOk result (λ lines. IsClosed (problem_in store.old problem.now) number answer
-        (lines_said written.lines.items) (lines_said lines.items)) }
-    ensures section { IfOk result (λ lines. IsSectionOf
-        (task_of (problem_in store.old problem.now) number) answer (lines_said lines.items)) }
-    ensures form { IfOk result (λ lines. All IsCertLine (lines_said lines.items)) }
+    ensures closed { IfOk result (λ whole. IsClosed (problem_in store.old problem.now) number answer
+        (lines_said written.lines.items) (lines_said whole.lines.items)) }
+    ensures section { IfOk result (λ whole. IsCounted
+        (task_of (problem_in store.old problem.now) number) answer
+        (lines_said whole.lines.items) whole.variables) }
+    ensures form { IfOk result (λ whole. All IsCertLine (lines_said whole.lines.items)) }
 
     // Only where memory runs out, or the meter is spent, are there no lines.
     ensures charged { IsCharged meter.old meter.new result }
@@ -139,27 +149,31 @@ fn refuted_lines(
     rewritten: &Rewritten,
     noted: &[Step],
     meter: &mut Meter,
-) -> Result<Vec<Line>, PlayFault>
+) -> Result<Closing, PlayFault>
     requires number { IsNumber number }
     requires form { All IsCertLine (lines_said lines.items) }
     requires below { All (λ id. id < length store.now) rewritten.now.list.items }
     requires owed { IsForFinal meter.old (named store.now rewritten.now.list.items) }
     ensures refuted { IfOk result (λ whole. IsRefuted number answer (lines_said lines.items)
         rewritten.now.rules.items (named store.now rewritten.now.list.items)
-        (lines_said whole.items)) }
-    ensures form { IfOk result (λ whole. All IsCertLine (lines_said whole.items)) }
+        (lines_said whole.lines.items)) }
+    ensures greatest { IfOk result (λ whole. whole.variables
+        ≡ greatest_variable (clause_list (named store.now rewritten.now.list.items))) }
+    ensures form { IfOk result (λ whole. All IsCertLine (lines_said whole.lines.items)) }
     ensures charged { IsCharged meter.old meter.new result }
     ensures spent { IfErr result (IsSpentBy meter.new) }
     ensures variables { IsMeasured meter.old (named store.now rewritten.now.list.items) result }
 {
     match refute(alloc, store, &rewritten.list, noted, meter) {
         Ok(found) => {
+            let variables = found.variables;
             let rules = &rewritten.rules;
-            let laid = found.laid();
-            let steps = found.steps(noted);
+            let laid = found.refutation.laid();
+            let steps = found.refutation.steps(noted);
             let whole = section_lines(alloc, number, answer, lines, rules, laid, steps);
             drop(found);
-            Ok(whole?)
+            let lines = whole?;
+            Ok(Closing { lines, variables })
         }
         Err(fault) => {
             drop(lines);

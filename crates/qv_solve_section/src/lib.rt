@@ -6,6 +6,6 @@ pub mod laws;
 mod lines;
 mod rewriting;
 
-pub use closing::close;
+pub use closing::{Closing, close};
 pub use qv_store::NoMemory;
 pub use rewriting::{Rewritten, rewrite_all};

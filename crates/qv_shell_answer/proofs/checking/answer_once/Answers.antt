@@ -48,7 +48,7 @@ returns-clause-checked c =
     let counts = c.counts_in-counts.result in
     let kept : IsKept held.constants s counts it = subst (λ (owns : List Declared). IsKept owns s counts it) c.constants.ensures c.in_ok-finish.ensures in
     subst (λ (fs : List Tree). IsCheckedFor c.args.number limits held.constants fs c.solve_one.new.meter it) (same-formulas trees held ids are)
-    (is-checked c.args.number limits held.constants (map (tree_at trees) ids) c.solve_one.new.meter s (ids-over trees held ids are c.requires.check) made.section made.form made.truth made.constants made.record.limited made.settled it counts kept c.counts_in-counts.ensures)
+    (is-checked c.args.number limits held.constants (map (tree_at trees) ids) c.solve_one.new.meter s (ids-over trees held ids are c.requires.check) made.counted made.form made.truth made.constants made.record.limited made.settled it counts kept c.counts_in-counts.ensures.newest c.counts_in-counts.ensures.variables)
 
 pub returns-clause-within : goal.returns-clause-within
 returns-clause-within c =

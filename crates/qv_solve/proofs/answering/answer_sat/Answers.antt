@@ -17,7 +17,7 @@ use Rattle.qv_skolem.specs.Skolems.{skolems_in, IsNeverTrue}
 use Rattle.qv_solve_write.specs.Said.{lines_said}
 use Rattle.qv_solve_draw.specs.Drawing.{IsListing}
 use Rattle.qv_solve_draw.specs.Values.{AreExistential, HaveSorts, values_of}
-use Rattle.qv_solve_section.specs.Sections.{IsClosed, IsSectionOf, formulas_of, task_of}
+use Rattle.qv_solve_section.specs.Sections.{IsClosed, IsCounted, formulas_of, task_of}
 use Rattle.qv_solve_refute.specs.Refuting.{IsForFinal}
 use Rattle.qv_meter.specs.Units.{Final}
 use Rattle.qv_meter.specs.Records.{in_lane}
@@ -89,13 +89,14 @@ returns-clause-solution c =
     let es = entries_in c.args.store.now c.args.entries.now in
     let mid = c.draw_terms.new.store in
     let given = lines_said c.in_ok-drawn.drawn.written.lines.items in
-    let lines = lines_said c.in_ok-lines.lines.items in
+    let whole = c.in_ok-closing.closing in
+    let lines = lines_said whole.lines.items in
     let same = problem-grown c.args.store.now mid c.draw_terms.ensures.grows c.args.problem.now c.requires.posed in
     let own : SkolemOk p (chain p es) = subst (SkolemOk p) c.in_ok-drawn.ensures.terms c.in_ok-drawn.ensures.listing.section in
-    let charged = conflicts-instances (in_lane Final c.args.meter.now) c.close.new.meter (length c.args.entries.now) c.in_ok-lines.ensures.charged (charged-instances p (length c.args.entries.now) c.args.meter.now c.requires.«record») in
+    let charged = conflicts-instances (in_lane Final c.args.meter.now) c.close.new.meter (length c.args.entries.now) c.in_ok-closing.ensures.charged (charged-instances p (length c.args.entries.now) c.args.meter.now c.requires.«record») in
     record {
-      section = subst (λ (q : Problem). IsSectionOf (task_of q c.args.number) Sat lines) same c.in_ok-lines.ensures.section;
-      form = c.in_ok-lines.ensures.form;
+      section = subst (λ (q : Problem). IsCounted (task_of q c.args.number) Sat lines whole.variables) same c.in_ok-closing.ensures.section;
+      form = c.in_ok-closing.ensures.form;
       holds = skolem-soundness p (chain p es) c.requires.posed.problem own c.in_ok-drawn.ensures.goal;
       drawn = record {
         entries = es;
@@ -103,7 +104,7 @@ returns-clause-solution c =
         played = c.requires.played;
         won = c.requires.won;
         list = c.in_ok-drawn.ensures.terms;
-        closed = subst (λ (q : Problem). IsClosed q c.args.number Sat given lines) same c.in_ok-lines.ensures.closed;
+        closed = subst (λ (q : Problem). IsClosed q c.args.number Sat given lines) same c.in_ok-closing.ensures.closed;
         counted = subst (CountsInstances c.close.new.meter) (sym (length-map c.args.entries.now (entry_in c.args.store.now))) charged;
       };
       values = record {

@@ -13,7 +13,7 @@ use Rattle.qv_expand.proofs.OneLine.{posed-grown, problem-grown}
 use Rattle.qv_game.proofs.Counting.{same-transitive}
 use Rattle.qv_solve_write.specs.Said.{lines_said}
 use Rattle.qv_solve_draw.specs.Drawing.{IsListing}
-use Rattle.qv_solve_section.specs.Sections.{IsClosed, IsSectionOf, formulas_of, task_of}
+use Rattle.qv_solve_section.specs.Sections.{IsClosed, IsCounted, formulas_of, task_of}
 use Rattle.qv_solve_refute.specs.Refuting.{IsForFinal}
 use Rattle.qv_meter.specs.Units.{Final}
 use Rattle.qv_meter.specs.Records.{in_lane}
@@ -61,15 +61,16 @@ returns-clause-solution c =
     let es = entries_in c.args.store.now c.args.entries.now in
     let mid = c.draw_lines.new.store in
     let given = lines_said c.in_ok-written.written.lines.items in
-    let lines = lines_said c.in_ok-lines.lines.items in
+    let whole = c.in_ok-closing.closing in
+    let lines = lines_said whole.lines.items in
     let many = length (tree_of p es) in
     let same = problem-grown c.args.store.now mid c.draw_lines.ensures.grows c.args.problem.now c.requires.posed in
     let own : IsExpansion p (tree_of p es) = subst (IsExpansion p) c.in_ok-written.ensures.tree c.in_ok-written.ensures.listing.section in
     let drawn = lines-counted p (length c.args.entries.now) many c.args.meter.now c.draw_lines.new.meter c.requires.«record» c.in_ok-written.ensures.counted in
-    let charged = conflicts-instances (in_lane Final c.draw_lines.new.meter) c.close.new.meter (length c.args.entries.now + many) c.in_ok-lines.ensures.charged (charged-instances p (length c.args.entries.now + many) c.draw_lines.new.meter drawn) in
+    let charged = conflicts-instances (in_lane Final c.draw_lines.new.meter) c.close.new.meter (length c.args.entries.now + many) c.in_ok-closing.ensures.charged (charged-instances p (length c.args.entries.now + many) c.draw_lines.new.meter drawn) in
     record {
-      section = subst (λ (q : Problem). IsSectionOf (task_of q c.args.number) Unsat lines) same c.in_ok-lines.ensures.section;
-      form = c.in_ok-lines.ensures.form;
+      section = subst (λ (q : Problem). IsCounted (task_of q c.args.number) Unsat lines whole.variables) same c.in_ok-closing.ensures.section;
+      form = c.in_ok-closing.ensures.form;
       holds = expansion-soundness p (tree_of p es) c.requires.posed.problem own c.in_ok-written.ensures.leaves;
       drawn = record {
         entries = es;
@@ -77,7 +78,7 @@ returns-clause-solution c =
         played = c.requires.played;
         won = c.requires.won;
         list = c.in_ok-written.ensures.tree;
-        closed = subst (λ (q : Problem). IsClosed q c.args.number Unsat given lines) same c.in_ok-lines.ensures.closed;
+        closed = subst (λ (q : Problem). IsClosed q c.args.number Unsat given lines) same c.in_ok-closing.ensures.closed;
         counted = subst (λ (n : ℕ). CountsInstances c.close.new.meter (n + many)) (sym (length-map c.args.entries.now (entry_in c.args.store.now))) charged;
       };
       values = tt;

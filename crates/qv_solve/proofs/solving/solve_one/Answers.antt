@@ -9,8 +9,8 @@ use Rattle.qv_store.proofs.Replacement.{grows-more, if-ok}
 use Rattle.qv_meter.specs.Views.{limits_of}
 use Rattle.qv_prenex.specs.Posed.{values_for}
 use Rattle.qv_game.specs.Starting.{IsUncharged}
-use Rattle.qv_solve_section.specs.Sections.{IsSectionOf, task_of}
-use Rattle.qv_solve.specs.Solutions.{IsDrawn, IsSettled, answer_of, lines_of}
+use Rattle.qv_solve_section.specs.Sections.{IsCounted, IsSectionOf, task_of}
+use Rattle.qv_solve.specs.Solutions.{IsDrawn, IsSettled, answer_of, lines_of, variables_of}
 use Rattle.qv_solve.specs.Answering.{GivesValues, IsTrueOf}
 use Rattle.qv_solve.proofs.Answered.{answer-true, gives-constants, limit-not, when-ok}
 use Rattle.qv_solve.proofs.Constants.{first-existential}
@@ -30,7 +30,11 @@ finish-requires-clause-record c =
 
 pub returns-clause-section : goal.returns-clause-section
 returns-clause-section c =
-    if-ok c.finish.result (λ s h. subst (λ (p : Problem). IsSectionOf (task_of p c.args.number) (answer_of s) (lines_of s)) c.in_ok-problem.ensures.problem h.section) c.finish.ensures.solution
+    if-ok c.finish.result (λ s h. subst (λ (p : Problem). IsSectionOf (task_of p c.args.number) (answer_of s) (lines_of s)) c.in_ok-problem.ensures.problem h.section.section) c.finish.ensures.solution
+
+pub returns-clause-counted : goal.returns-clause-counted
+returns-clause-counted c =
+    if-ok c.finish.result (λ s h. subst (λ (p : Problem). IsCounted (task_of p c.args.number) (answer_of s) (lines_of s) (variables_of s)) c.in_ok-problem.ensures.problem h.section) c.finish.ensures.solution
 
 pub returns-clause-form : goal.returns-clause-form
 returns-clause-form c = if-ok c.finish.result (λ s h. h.form) c.finish.ensures.solution
