@@ -14,8 +14,8 @@ from rows import write_rows
 BUDGETS = {"conflicts": (1000000, 2**60 - 1), "instances": (10000, 2**60 - 1), "variables": (4000000, 2**30)}
 LIMITS = {**BUDGETS, "places": (4096, 1000000)}
 FLAGS = {"solve": ["check", "verbose", "stats"], "qsolve": ["stats"]}
-PLACES = {"solve": 2, "check": 2, "lrat": 2, "trim": 3, "qsolve": 2, "qcheck": 2, "gen": 1, "bench": 1}
-OPTIONS = {"solve": list(LIMITS), "qsolve": list(LIMITS), "check": ["places"], "trim": ["places"], "qcheck": ["places"]}
+PLACES = {"solve": 2, "check": 2, "lrat": 2, "trim": 3, "clauses": 2, "qsolve": 2, "qcheck": 2, "gen": 1, "bench": 1}
+OPTIONS = {"solve": list(LIMITS), "qsolve": list(LIMITS), "check": ["places"], "trim": ["places"], "clauses": ["places"], "qcheck": ["places"]}
 GREATEST = {"gen": 100000, "bench": 1000}
 
 
@@ -102,7 +102,7 @@ def random_words(chance):
 def rows():
     yield "# the commands", None
     yield "none", "refused"
-    for command in "solve", "check", "lrat", "trim", "qsolve", "qcheck", "gen", "bench", "", "Solve", "Trim", "trims", "QSolve", "qsolv", "Qcheck", "q", "Lrat", "lrats", "SOLVE", "solv", "solved", "help", "--help", "-h", "--version", "--", "-", "run":
+    for command in "solve", "check", "lrat", "trim", "qsolve", "qcheck", "gen", "bench", "", "Solve", "Trim", "trims", "QSolve", "qsolv", "Qcheck", "q", "Lrat", "lrats", "clauses", "Clauses", "clause", "SOLVE", "solv", "solved", "help", "--help", "-h", "--version", "--", "-", "run":
         yield row(command)
         yield row(command, "a", "b")
         yield row(command, "5")
@@ -113,7 +113,7 @@ def rows():
         yield row(*words)
     yield "", None
     yield "# words that stand at their places", None
-    for command in "solve", "check", "lrat", "qsolve", "qcheck":
+    for command in "solve", "check", "lrat", "clauses", "qsolve", "qcheck":
         for words in ("-", "-"), ("a", "-"), ("", ""), ("", "b"), ("a b", " "), ("a=b", "="), ("help", "help"), ("a", "b", "c"), ("a",), ("caf\u00e9", "\u00df"), ("5", "solve"):
             yield row(command, *words)
     for words in ("-", "a", "b"), ("a", "-", "b"), ("-", "-", "b"), ("a", "b", "-"), ("-", "b", "-"), ("a", "b", "./-"), ("", "", ""), ("a", "a", "a"), ("a", "b", " -"), ("a", "b", "--"), ("--", "a", "b", "-"), ("a", "b", "--", "-"), ("--", "-a", "--", "-b"), ("a", "b"), ("a",), ("a", "b", "c", "d"), ("caf\u00e9", "\u00df", "trim"):
@@ -127,6 +127,7 @@ def rows():
         yield row("lrat", flag, "b")
         yield row("trim", "a", "b", flag)
         yield row("trim", "a", flag, "b", "c")
+        yield row("clauses", "a", "b", flag)
         yield row("qsolve", "a", "b", flag)
         yield row("qcheck", "a", "b", flag)
         yield row("gen", flag)
@@ -147,6 +148,7 @@ def rows():
         yield row("check", "a", "b", "--" + name + "=5")
         yield row("qcheck", "a", "b", "--" + name, "5")
         yield row("trim", "a", "b", "c", "--" + name, "5")
+        yield row("clauses", "a", "b", "--" + name, "5")
         yield row("qsolve", "--" + name + "=5", "a", "b")
         yield row("qsolve", "a", "b", "--" + name, "5", "--" + name, "5")
         yield row("gen", "5", "--" + name, "5")
@@ -155,10 +157,11 @@ def rows():
         yield row("check", "a", "b", "--places", value)
         yield row("check", "a", "b", "--places=" + value)
         yield row("trim", "a", "b", "c", "--places", value)
+        yield row("clauses", "a", "b", "--places", value)
         yield row("qsolve", "a", "b", "--places", value)
         yield row("qcheck", "a", "b", "--places=" + value)
     for words in ("--places", "7", "a", "b"), ("a", "--places", "7", "b"), ("a", "b", "--places"), ("a", "--places", "b"), ("a", "b", "--places", "7", "--places", "7"), ("a", "--places=7", "b", "--places=8"), ("a", "b", "--place", "7"), ("a", "b", "--Places", "7"), ("a", "b", "-places", "7"), ("--", "a", "--places"), ("a", "b", "--", "--places", "7"), ("--places=7", "--", "a", "b"), ("a", "b", "--places", "7", "--instances", "3"):
-        for command in "solve", "check", "qsolve", "qcheck":
+        for command in "solve", "check", "clauses", "qsolve", "qcheck":
             yield row(command, *words)
     yield row("trim", "a", "--places", "7", "b", "c")
     yield row("trim", "a", "b", "-", "--places", "7")
@@ -200,6 +203,7 @@ def rows():
         yield row("check", "a", "b", flag)
         yield row("qcheck", "a", "b", flag)
         yield row("trim", "a", "b", "c", flag)
+        yield row("clauses", "a", "b", flag)
         yield row("gen", "5", flag)
         yield row("bench", flag, "5")
     yield row("solve", "a", "b", "--check", "--verbose", "--stats")
@@ -209,6 +213,7 @@ def rows():
     yield row("check", "a", "b", "--stats")
     yield row("qcheck", "a", "b", "--stats")
     yield row("trim", "a", "b", "c", "--stats")
+    yield row("clauses", "a", "b", "--stats")
     yield row("gen", "5", "--stats")
     yield row("bench", "--stats", "5")
     yield "", None
@@ -217,6 +222,7 @@ def rows():
         yield row("solve", *words)
         yield row("check", *words)
         yield row("lrat", *words)
+        yield row("clauses", *words)
         yield row("qsolve", *words)
         yield row("qcheck", *words)
     yield row("solve", "--", "--conflicts", "5")

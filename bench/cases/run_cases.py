@@ -28,7 +28,8 @@ WRITTEN = os.path.join(HERE, "../written")
 SENT = os.path.join(HERE, "../measure/clients/sent")
 USAGE = (b"usage: qbv solve SCRIPT CERT [--conflicts N] [--instances N] [--variables N] | qbv check SCRIPT CERT"
          b" | qbv gen N | qbv bench N | qbv lrat CNF PROOF | qbv trim SCRIPT CERT NEW"
-         b" | qbv qsolve FILE CERT [--conflicts N] [--instances N] [--variables N] | qbv qcheck FILE CERT\n")
+         b" | qbv qsolve FILE CERT [--conflicts N] [--instances N] [--variables N] | qbv qcheck FILE CERT"
+         b" | qbv clauses SCRIPT CERT\n")
 HELP = open(os.path.join(HERE, "help.txt"), "rb").read()
 
 # --- tokens -------------------------------------------------------------------------------------
@@ -479,9 +480,11 @@ def called(all_words):
         n = int(rest[0])
         return "alone:", b"checks %d\nsat %d\nunsat %d\nunknown 0\naccepted\n" % (2 * n, n, n), 0
     files = " ".join(quoted(word.encode()) for word in rest[:3 if command == "trim" else 2])
-    plan = "%s %s:" % ({"lrat": "check", "qcheck": "check", "qsolve": "solve"}.get(command, command), files)
+    plan = "%s %s:" % ({"lrat": "check", "qcheck": "check", "clauses": "check", "qsolve": "solve"}.get(command, command), files)
     if command in ("lrat", "qsolve"):
         return plan, b'(error "at 0: problem line")\n', 1
+    if command == "clauses":
+        return plan, b"c refused 1 truncated\n", 6
     return plan, *((None, None) if command == "solve" else (b"refused 1 truncated\n", 6))
 
 
@@ -1021,6 +1024,11 @@ def write_words():
     words(b"trim", b"x", b"y", b"-")
     words(b"trim", b"x", b"y")
     words(b"trim", b"trim", b"trim", b"trim")
+    words(b"clauses", b"x.smt2", b"x.cert")
+    words(b"clauses", b"-", b"-")
+    words(b"clauses", b"clauses", b"", b"--places", b"5")
+    words(b"clauses", b"x", b"y", b"z")
+    words(b"clauses", b"x")
     words(b"qsolve", b"x.qdimacs", b"-")
     words(b"qsolve", b"-", b"x.cert", b"--stats", b"--conflicts=5")
     words(b"qsolve", b"qsolve", b"qsolve", b"--instances", b"0")
@@ -1092,7 +1100,7 @@ def write_words():
     words(b"check", b"a", b"b", take=3, take_fails=[2])
     words(b"lrat", b"a", b"b", take_fails=[1])
     words(b"lrat", b"a", b"b", take=3, take_fails=[2])
-    for command in (b"trim", b"a", b"b", b"c"), (b"qsolve", b"a", b"b"), (b"qcheck", b"a", b"b"):
+    for command in (b"trim", b"a", b"b", b"c"), (b"clauses", b"a", b"b"), (b"qsolve", b"a", b"b"), (b"qcheck", b"a", b"b"):
         words(*command, take_fails=[1])
         words(*command, take=3, take_fails=[2])
     words(b"gen", b"1", take_fails=[1])

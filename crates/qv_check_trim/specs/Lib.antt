@@ -1,7 +1,7 @@
 -- what public contracts cite
 pub mod Trimmed
 pub mod TrimmedLaws
--- the inside
-pub mod Taking
 pub mod Printing
 pub mod Sections
+-- the inside
+pub mod Taking

@@ -1,4 +1,4 @@
--- What the check of a certificate prints. No public contract cites this.
+-- What the check of a certificate prints.
 use Rattle.std.specs.Prelude.{◌≡◌, ◌≢◌, ℕ, Option, IfOk, IfSome, Result, Err, List, [], ◌++◌}
 use Rattle.qv_check_defs.specs.Outcome.{outcome}
 use Rattle.qv_check_script.specs.Ending.{status_of}

@@ -1,4 +1,5 @@
--- Accepted sections in a text, and their answers in what was printed. No public contract cites this.
+-- Accepted sections in a text, and their answers in what was printed. Public contracts cite
+-- `BeginsWithAnswer` and `BeginsWithNoAnswer`.
 use Rattle.std.specs.Prelude.{◌≡◌, ◌≢◌, ◌<◌, ◌≤◌, ℕ, Option, List, [], ◌∷◌, ◌++◌, flat_map, drop, length, Ok}
 use Rattle.qv_io.specs.Sink.{Appends}
 use Rattle.qv_words.specs.declared.op.Answer.{Answer}

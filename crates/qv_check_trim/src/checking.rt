@@ -14,13 +14,13 @@ use std::alloc::{AllocError, Global};
 
 /// How a check ended, and what it prints.
 #[derive(Drop)]
-pub(crate) struct Checked {
-    pub(crate) ended: Result<Ending, Halt>,
-    pub(crate) printed: Vec<u8>,
+pub struct Checked {
+    pub ended: Result<Ending, Halt>,
+    pub printed: Vec<u8>,
 }
 
 /// Checks a certificate beside its script.
-pub(crate) fn check_held<S: Source>(
+pub fn check_held<S: Source>(
     alloc: Global,
     places: u32,
     script: &mut S,

@@ -8,13 +8,14 @@ use qv_io::{Failed, Source};
 
 /// A source over bytes in memory, which tells them and never fails.
 #[derive(Clone, Copy)]
-pub(crate) struct Held<'a> {
-    left: &'a [u8],
+pub struct Held<'a> {
+    /// The bytes that aren't told yet.
+    pub left: &'a [u8],
 }
 
 impl<'a> Held<'a> {
     /// All bytes are left.
-    pub(crate) fn new(bytes: &'a [u8]) -> Held<'a>
+    pub fn new(bytes: &'a [u8]) -> Held<'a>
         ensures { result.left.now ≡ bytes.now }
     {
         Held { left: bytes }

@@ -8,4 +8,8 @@ mod sections;
 mod taking;
 mod trimming;
 
+pub use checking::{Checked, check_held};
+pub use held::Held;
+pub use sections::answer_size;
+pub use taking::take_all;
 pub use trimming::trim;

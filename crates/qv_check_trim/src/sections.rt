@@ -128,8 +128,8 @@ fn write_sections<P: Sink>(
     Ok(())
 }
 
-// How many bytes the answer has with which a text begins, if it begins with one.
-fn answer_size(text: &[u8]) -> Option<usize>
+/// How many bytes the answer has with which a text begins, if it begins with one.
+pub fn answer_size(text: &[u8]) -> Option<usize>
     ensures { MatchOption result (BeginsWithNoAnswer text.now)
         (λ size. BeginsWithAnswer text.now size) }
 {

@@ -11,7 +11,7 @@ use qv_io::{LIMIT, PIECE, Source};
 use std::alloc::Global;
 
 /// Takes all bytes of a source, unless they are as many as the limit allows.
-pub(crate) fn take_all<C: Source>(alloc: Global, source: &mut C) -> Result<Vec<u8>, Halt>
+pub fn take_all<C: Source>(alloc: Global, source: &mut C) -> Result<Vec<u8>, Halt>
     ensures all { IfOk result (λ bytes. IfSome (C.left source.old) (λ told. bytes.items ≡ told)) }
     ensures small { IfOk result (λ bytes. length bytes.items < read_limit) }
     ensures read { result ≡ Err Halt.Read → Rose (C.faults source.old) (C.faults source.new) }

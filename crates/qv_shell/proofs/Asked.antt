@@ -4,7 +4,7 @@ use Rattle.std.specs.Prelude.{IfSome}
 use Rattle.qv_io.proofs.SinkLemmas.{Appends-nothing}
 use Rattle.qv_shell_args.specs.declared.calls.Settings.{Settings}
 use Rattle.qv_shell_args.specs.declared.calls.Page.{Page}
-use Rattle.qv_shell_args.specs.Call.{Request, Solve, Check, Lrat, Trim, QSolve, QCheck, Gen, Bench, Print}
+use Rattle.qv_shell_args.specs.Call.{Request, Solve, Check, Lrat, Trim, Clauses, QSolve, QCheck, Gen, Bench, Print}
 use Rattle.qv_meter.specs.Records.{Record}
 use Rattle.qv_shell_follow.proofs.Starting.{nothing-solved}
 use Rattle.qv_gen.specs.Generating.{IsGenRun, IsWriting, IsWritingUnless}
@@ -12,7 +12,7 @@ use Rattle.qv_shell.specs.Bench.{IsBenchRun}
 use Rattle.qv_check_defs.specs.Outcome.{outcome}
 use Rattle.qv_check_script.proofs.Unfinished.{nothing-short}
 use Rattle.qv_shell.specs.Checking.{IsCheckRun, IsFront}
-use Rattle.qv_shell.specs.Requests.{IfSolve, IfCheck, IfLrat, IfTrim, IfQSolve, IfQCheck, IfGen, IfBench, IfPage, IfRefused, IfSolves, IfChecks, IfReads, IfWrites, UnlessReads, UnlessWrites, UnlessScript, UnlessMetered, limits_with}
+use Rattle.qv_shell.specs.Requests.{IfSolve, IfCheck, IfLrat, IfTrim, IfClauses, IfQSolve, IfQCheck, IfGen, IfBench, IfPage, IfRefused, IfSolves, IfChecks, IfReads, IfWrites, UnlessReads, UnlessWrites, UnlessScript, UnlessMetered, limits_with}
 use Rattle.qv_shell.specs.Solving.{IsSolveRun}
 use Rattle.qv_shell.specs.Words.{page_text, usage}
 use Rattle.qv_shell.proofs.Benching.{starts-none}
@@ -25,6 +25,7 @@ if-solve (Some (Solve script cert settings)) h = h settings
 if-solve (Some (Check script cert places)) h = tt
 if-solve (Some (Lrat cnf proof)) h = tt
 if-solve (Some (Trim script cert to places)) h = tt
+if-solve (Some (Clauses script cert places)) h = tt
 if-solve (Some (QSolve file cert settings)) h = tt
 if-solve (Some (QCheck file cert places)) h = tt
 if-solve (Some (Gen n)) h = tt
@@ -37,6 +38,7 @@ if-check (Some (Solve script cert settings)) h = tt
 if-check (Some (Check script cert places)) h = h places
 if-check (Some (Lrat cnf proof)) h = tt
 if-check (Some (Trim script cert to places)) h = tt
+if-check (Some (Clauses script cert places)) h = tt
 if-check (Some (QSolve file cert settings)) h = tt
 if-check (Some (QCheck file cert places)) h = tt
 if-check (Some (Gen n)) h = tt
@@ -49,6 +51,7 @@ if-lrat (Some (Solve script cert settings)) h = tt
 if-lrat (Some (Check script cert places)) h = tt
 if-lrat (Some (Lrat cnf proof)) h = h
 if-lrat (Some (Trim script cert to places)) h = tt
+if-lrat (Some (Clauses script cert places)) h = tt
 if-lrat (Some (QSolve file cert settings)) h = tt
 if-lrat (Some (QCheck file cert places)) h = tt
 if-lrat (Some (Gen n)) h = tt
@@ -61,6 +64,7 @@ if-trim (Some (Solve script cert settings)) h = tt
 if-trim (Some (Check script cert places)) h = tt
 if-trim (Some (Lrat cnf proof)) h = tt
 if-trim (Some (Trim script cert to places)) h = h places
+if-trim (Some (Clauses script cert places)) h = tt
 if-trim (Some (QSolve file cert settings)) h = tt
 if-trim (Some (QCheck file cert places)) h = tt
 if-trim (Some (Gen n)) h = tt
@@ -68,11 +72,25 @@ if-trim (Some (Bench n)) h = tt
 if-trim (Some (Print page)) h = tt
 if-trim None h = tt
 
+pub if-clauses : (r : Option Request) {P : ℕ → Type 0} → ((places : ℕ) → P places) → IfClauses r P
+if-clauses (Some (Solve script cert settings)) h = tt
+if-clauses (Some (Check script cert places)) h = tt
+if-clauses (Some (Lrat cnf proof)) h = tt
+if-clauses (Some (Trim script cert to places)) h = tt
+if-clauses (Some (Clauses script cert places)) h = h places
+if-clauses (Some (QSolve file cert settings)) h = tt
+if-clauses (Some (QCheck file cert places)) h = tt
+if-clauses (Some (Gen n)) h = tt
+if-clauses (Some (Bench n)) h = tt
+if-clauses (Some (Print page)) h = tt
+if-clauses None h = tt
+
 pub if-qsolve : (r : Option Request) {P : Settings → Type 0} → ((s : Settings) → P s) → IfQSolve r P
 if-qsolve (Some (Solve script cert settings)) h = tt
 if-qsolve (Some (Check script cert places)) h = tt
 if-qsolve (Some (Lrat cnf proof)) h = tt
 if-qsolve (Some (Trim script cert to places)) h = tt
+if-qsolve (Some (Clauses script cert places)) h = tt
 if-qsolve (Some (QSolve file cert settings)) h = h settings
 if-qsolve (Some (QCheck file cert places)) h = tt
 if-qsolve (Some (Gen n)) h = tt
@@ -85,6 +103,7 @@ if-qcheck (Some (Solve script cert settings)) h = tt
 if-qcheck (Some (Check script cert places)) h = tt
 if-qcheck (Some (Lrat cnf proof)) h = tt
 if-qcheck (Some (Trim script cert to places)) h = tt
+if-qcheck (Some (Clauses script cert places)) h = tt
 if-qcheck (Some (QSolve file cert settings)) h = tt
 if-qcheck (Some (QCheck file cert places)) h = h places
 if-qcheck (Some (Gen n)) h = tt
@@ -97,6 +116,7 @@ if-gen (Some (Solve script cert settings)) h = tt
 if-gen (Some (Check script cert places)) h = tt
 if-gen (Some (Lrat cnf proof)) h = tt
 if-gen (Some (Trim script cert to places)) h = tt
+if-gen (Some (Clauses script cert places)) h = tt
 if-gen (Some (QSolve file cert settings)) h = tt
 if-gen (Some (QCheck file cert places)) h = tt
 if-gen (Some (Gen n)) h = h n
@@ -109,6 +129,7 @@ if-bench (Some (Solve script cert settings)) h = tt
 if-bench (Some (Check script cert places)) h = tt
 if-bench (Some (Lrat cnf proof)) h = tt
 if-bench (Some (Trim script cert to places)) h = tt
+if-bench (Some (Clauses script cert places)) h = tt
 if-bench (Some (QSolve file cert settings)) h = tt
 if-bench (Some (QCheck file cert places)) h = tt
 if-bench (Some (Gen n)) h = tt
@@ -121,6 +142,7 @@ if-page (Some (Solve script cert settings)) h = tt
 if-page (Some (Check script cert places)) h = tt
 if-page (Some (Lrat cnf proof)) h = tt
 if-page (Some (Trim script cert to places)) h = tt
+if-page (Some (Clauses script cert places)) h = tt
 if-page (Some (QSolve file cert settings)) h = tt
 if-page (Some (QCheck file cert places)) h = tt
 if-page (Some (Gen n)) h = tt
@@ -137,6 +159,7 @@ if-solves (Some (Solve script cert settings)) h = h
 if-solves (Some (Check script cert places)) h = tt
 if-solves (Some (Lrat cnf proof)) h = tt
 if-solves (Some (Trim script cert to places)) h = tt
+if-solves (Some (Clauses script cert places)) h = tt
 if-solves (Some (QSolve file cert settings)) h = h
 if-solves (Some (QCheck file cert places)) h = tt
 if-solves (Some (Gen n)) h = tt
@@ -149,6 +172,7 @@ if-checks (Some (Solve script cert settings)) h = tt
 if-checks (Some (Check script cert places)) h = h
 if-checks (Some (Lrat cnf proof)) h = h
 if-checks (Some (Trim script cert to places)) h = tt
+if-checks (Some (Clauses script cert places)) h = h
 if-checks (Some (QSolve file cert settings)) h = tt
 if-checks (Some (QCheck file cert places)) h = h
 if-checks (Some (Gen n)) h = tt
@@ -161,6 +185,7 @@ if-reads (Some (Solve script cert settings)) h = tt
 if-reads (Some (Check script cert places)) h = h
 if-reads (Some (Lrat cnf proof)) h = h
 if-reads (Some (Trim script cert to places)) h = h
+if-reads (Some (Clauses script cert places)) h = h
 if-reads (Some (QSolve file cert settings)) h = tt
 if-reads (Some (QCheck file cert places)) h = h
 if-reads (Some (Gen n)) h = tt
@@ -173,6 +198,7 @@ if-writes (Some (Solve script cert settings)) h = h
 if-writes (Some (Check script cert places)) h = tt
 if-writes (Some (Lrat cnf proof)) h = tt
 if-writes (Some (Trim script cert to places)) h = h
+if-writes (Some (Clauses script cert places)) h = tt
 if-writes (Some (QSolve file cert settings)) h = h
 if-writes (Some (QCheck file cert places)) h = tt
 if-writes (Some (Gen n)) h = tt
@@ -185,6 +211,7 @@ unless-reads (Some (Solve script cert settings)) h = h
 unless-reads (Some (Check script cert places)) h = tt
 unless-reads (Some (Lrat cnf proof)) h = tt
 unless-reads (Some (Trim script cert to places)) h = tt
+unless-reads (Some (Clauses script cert places)) h = tt
 unless-reads (Some (QSolve file cert settings)) h = h
 unless-reads (Some (QCheck file cert places)) h = tt
 unless-reads (Some (Gen n)) h = h
@@ -197,6 +224,7 @@ unless-writes (Some (Solve script cert settings)) h = tt
 unless-writes (Some (Check script cert places)) h = h
 unless-writes (Some (Lrat cnf proof)) h = h
 unless-writes (Some (Trim script cert to places)) h = tt
+unless-writes (Some (Clauses script cert places)) h = h
 unless-writes (Some (QSolve file cert settings)) h = tt
 unless-writes (Some (QCheck file cert places)) h = h
 unless-writes (Some (Gen n)) h = h
@@ -212,6 +240,7 @@ unless-metered (Some (Solve script cert settings)) h = tt
 unless-metered (Some (Check script cert places)) h = h
 unless-metered (Some (Lrat cnf proof)) h = h
 unless-metered (Some (Trim script cert to places)) h = h
+unless-metered (Some (Clauses script cert places)) h = h
 unless-metered (Some (QSolve file cert settings)) h = tt
 unless-metered (Some (QCheck file cert places)) h = h
 unless-metered (Some (Gen n)) h = h
@@ -260,6 +289,7 @@ printed (Solve script cert settings) out out' status h = tt
 printed (Check script cert places) out out' status h = tt
 printed (Lrat cnf proof) out out' status h = tt
 printed (Trim script cert to places) out out' status h = tt
+printed (Clauses script cert places) out out' status h = tt
 printed (QSolve file cert settings) out out' status h = tt
 printed (QCheck file cert places) out out' status h = tt
 printed (Gen n) out out' status h = tt

@@ -5,7 +5,7 @@ use Rattle.std.specs.declared.io.Error.{Error}
 use Rattle.qv_io.specs.StdSource.{ReadGives, given_of, faults_of}
 use Rattle.qv_io.specs.declared.std_source.StdSource.{StdSource}
 use Rattle.qv_sexpr.proofs.Counting.{given_is_counted}
-use Rattle.qv_shell_args.specs.Call.{Request, Solve, Check, Lrat, Trim, QSolve, QCheck, Gen, Bench, Print}
+use Rattle.qv_shell_args.specs.Call.{Request, Solve, Check, Lrat, Trim, Clauses, QSolve, QCheck, Gen, Bench, Print}
 use Rattle.qv_shell.specs.Requests.{IfReads, IfWrites, UnlessReads, UnlessWrites}
 use Rattle.qv_shell.specs.Host.{RanShort, StopsReading, StopsWriting, SaysShort}
 
@@ -21,6 +21,8 @@ reading-of (Some (Print page)) failed failed' met met' status h k = h
 reading-of (Some (Check s c p)) failed failed' met met' status h k = λ e.
     ⊎_elim (λ f. ⊎_elim (λ x. inl (inl x)) (λ x. inr (inl x)) f) (λ m. ⊎_elim (λ x. inl (inr x)) (λ x. inr (inr x)) m) (k e)
 reading-of (Some (Lrat s c)) failed failed' met met' status h k = λ e.
+    ⊎_elim (λ f. ⊎_elim (λ x. inl (inl x)) (λ x. inr (inl x)) f) (λ m. ⊎_elim (λ x. inl (inr x)) (λ x. inr (inr x)) m) (k e)
+reading-of (Some (Clauses s c p)) failed failed' met met' status h k = λ e.
     ⊎_elim (λ f. ⊎_elim (λ x. inl (inl x)) (λ x. inr (inl x)) f) (λ m. ⊎_elim (λ x. inl (inr x)) (λ x. inr (inr x)) m) (k e)
 reading-of (Some (QCheck s c p)) failed failed' met met' status h k = λ e.
     ⊎_elim (λ f. ⊎_elim (λ x. inl (inl x)) (λ x. inr (inl x)) f) (λ m. ⊎_elim (λ x. inl (inr x)) (λ x. inr (inr x)) m) (k e)
@@ -38,6 +40,7 @@ writing-of (Some (Bench n)) out cert status h k = h
 writing-of (Some (Print page)) out cert status h k = h
 writing-of (Some (Check s c p)) out cert status h k = h
 writing-of (Some (Lrat s c)) out cert status h k = h
+writing-of (Some (Clauses s c p)) out cert status h k = h
 writing-of (Some (QCheck s c p)) out cert status h k = h
 
 -- by what is known of the objects
@@ -50,6 +53,7 @@ reading-on (Some (Bench n)) script cert script' cert' status f k h = λ e. f (h 
 reading-on (Some (Print page)) script cert script' cert' status f k h = λ e. f (h e)
 reading-on (Some (Check s c p)) script cert script' cert' status f k h = λ e. ⊎_elim (λ x. inl (f x)) (λ x. inr (k x)) (h e)
 reading-on (Some (Lrat s c)) script cert script' cert' status f k h = λ e. ⊎_elim (λ x. inl (f x)) (λ x. inr (k x)) (h e)
+reading-on (Some (Clauses s c p)) script cert script' cert' status f k h = λ e. ⊎_elim (λ x. inl (f x)) (λ x. inr (k x)) (h e)
 reading-on (Some (QCheck s c p)) script cert script' cert' status f k h = λ e. ⊎_elim (λ x. inl (f x)) (λ x. inr (k x)) (h e)
 reading-on (Some (Trim s c n p)) script cert script' cert' status f k h = λ e. ⊎_elim (λ x. inl (f x)) (λ x. inr (k x)) (h e)
 
@@ -63,6 +67,7 @@ writing-on (Some (Bench n)) out cert out' cert' status f k h = λ e. f (h e)
 writing-on (Some (Print page)) out cert out' cert' status f k h = λ e. f (h e)
 writing-on (Some (Check s c p)) out cert out' cert' status f k h = λ e. f (h e)
 writing-on (Some (Lrat s c)) out cert out' cert' status f k h = λ e. f (h e)
+writing-on (Some (Clauses s c p)) out cert out' cert' status f k h = λ e. f (h e)
 writing-on (Some (QCheck s c p)) out cert out' cert' status f k h = λ e. f (h e)
 
 -- a fact that holds where nothing is checked, and another that follows
@@ -75,6 +80,7 @@ unless-on (Some (Bench n)) A B f h = f h
 unless-on (Some (Print page)) A B f h = f h
 unless-on (Some (Check s c p)) A B f h = tt
 unless-on (Some (Lrat s c)) A B f h = tt
+unless-on (Some (Clauses s c p)) A B f h = tt
 unless-on (Some (QCheck s c p)) A B f h = tt
 unless-on (Some (Trim s c n p)) A B f h = tt
 

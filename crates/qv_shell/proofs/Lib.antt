@@ -1,6 +1,7 @@
 pub mod Checks
 pub mod Proved
 pub mod Trimmings
+pub mod Listings
 pub mod Quantified
 pub mod Runs
 pub mod Counted

@@ -3,7 +3,7 @@ use Rattle.std.specs.Prelude.{◌≡◌, ◌≤◌, ◌-◌, ◌^◌, ◌⊎◌,
 use Rattle.std.specs.declared.io.Error.{Error}
 use Rattle.qv_io.specs.Count.{Rose}
 use Rattle.qv_check_defs.specs.Limits.{MetLimit}
-use Rattle.qv_shell_args.specs.Call.{Request, Solve, Check, Lrat, Trim, QSolve, QCheck}
+use Rattle.qv_shell_args.specs.Call.{Request, Solve, Check, Lrat, Trim, Clauses, QSolve, QCheck}
 pub use Rattle.qv_shell_args.specs.Call.{request_in}
 pub use Rattle.qv_gen.specs.Generating.{IsGenRun, IsWritingUnless}
 pub use Rattle.qv_check_script.specs.Wanting.{WantsMore}
@@ -18,6 +18,7 @@ abbrev pub StopsReading : Option Request → (script cert : Type 0) → (status 
 StopsReading (Some (Check s c p)) script cert status = status ≡ 3 → script ⊎ cert
 StopsReading (Some (Lrat s c)) script cert status = status ≡ 3 → script ⊎ cert
 StopsReading (Some (Trim s c n p)) script cert status = status ≡ 3 → script ⊎ cert
+StopsReading (Some (Clauses s c p)) script cert status = status ≡ 3 → script ⊎ cert
 StopsReading (Some (QCheck s c p)) script cert status = status ≡ 3 → script ⊎ cert
 StopsReading _ script cert status = status ≡ 3 → script
 

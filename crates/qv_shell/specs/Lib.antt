@@ -5,6 +5,7 @@ pub mod Requests
 pub mod Checking
 pub mod Lrat
 pub mod Trimming
+pub mod Clauses
 pub mod Formulas
 pub mod Host
 pub mod Solving

@@ -1,7 +1,7 @@
 -- What the program has to open for its words.
 use Rattle.std.specs.Prelude.{◌≡◌, Option, Some, None, List, string_bytes}
 use Rattle.clap.specs.Words.{Text}
-use Rattle.qv_shell_args.specs.Call.{Request, Solve, Check, Lrat, Trim, QSolve, QCheck, request_in}
+use Rattle.qv_shell_args.specs.Call.{Request, Solve, Check, Lrat, Trim, Clauses, QSolve, QCheck, request_in}
 use Rattle.qv_shell.specs.declared.opening.Plan.{Plan}
 use Rattle.qv_shell.specs.declared.opening.Plan.TheVariants as plan
 
@@ -15,6 +15,7 @@ NamesSolve _ script cert = ⊥
 abbrev pub NamesCheck : Option Request → (script cert : Text) → Type 0
 NamesCheck (Some (Check s c p)) script cert = (script ≡ s) × (cert ≡ c)
 NamesCheck (Some (Lrat s c)) script cert = (script ≡ s) × (cert ≡ c)
+NamesCheck (Some (Clauses s c p)) script cert = (script ≡ s) × (cert ≡ c)
 NamesCheck (Some (QCheck s c p)) script cert = (script ≡ s) × (cert ≡ c)
 NamesCheck _ script cert = ⊥
 
@@ -29,6 +30,7 @@ NamesNothing (Some (Solve s c settings)) = ⊥
 NamesNothing (Some (Check s c p)) = ⊥
 NamesNothing (Some (Lrat s c)) = ⊥
 NamesNothing (Some (Trim s c n p)) = ⊥
+NamesNothing (Some (Clauses s c p)) = ⊥
 NamesNothing (Some (QSolve s c settings)) = ⊥
 NamesNothing (Some (QCheck s c p)) = ⊥
 NamesNothing (Some request) = Unit {0}

@@ -2,7 +2,7 @@
 use Rattle.std.specs.Prelude.{◌≡◌, ℕ, Option, Some, None, List}
 use Rattle.clap.specs.Words.{Text}
 use Rattle.qv_shell_args.specs.declared.calls.Budgets.{Budgets}
-use Rattle.qv_shell_args.specs.Call.{Request, Solve, Check, Lrat, Trim, QSolve, QCheck, Gen, Bench, Print}
+use Rattle.qv_shell_args.specs.Call.{Request, Solve, Check, Lrat, Trim, Clauses, QSolve, QCheck, Gen, Bench, Print}
 use Rattle.qv_meter.specs.Records.{Limits}
 use Rattle.qv_shell_args.specs.declared.calls.Page.{Page}
 use Rattle.qv_shell_args.specs.declared.calls.Settings.{Settings}
@@ -23,6 +23,10 @@ IfLrat _ P = Unit {0}
 abbrev pub IfTrim : Option Request → (ℕ → Type 0) → Type 0
 IfTrim (Some (Trim script cert to places)) P = P places
 IfTrim _ P = Unit {0}
+
+abbrev pub IfClauses : Option Request → (ℕ → Type 0) → Type 0
+IfClauses (Some (Clauses script cert places)) P = P places
+IfClauses _ P = Unit {0}
 
 abbrev pub IfQSolve : Option Request → (Settings → Type 0) → Type 0
 IfQSolve (Some (QSolve file cert settings)) P = P settings
@@ -54,10 +58,11 @@ IfSolves (Some (Solve script cert settings)) P = P
 IfSolves (Some (QSolve file cert settings)) P = P
 IfSolves _ P = Unit {0}
 
--- for a check of any kind, after which nothing is written but answers
+-- for a check of any kind, after which nothing is written but to the output
 abbrev pub IfChecks : Option Request → Type 0 → Type 0
 IfChecks (Some (Check script cert places)) P = P
 IfChecks (Some (Lrat cnf proof)) P = P
+IfChecks (Some (Clauses script cert places)) P = P
 IfChecks (Some (QCheck file cert places)) P = P
 IfChecks _ P = Unit {0}
 
@@ -76,6 +81,7 @@ abbrev pub UnlessReads : Option Request → Type 0 → Type 0
 UnlessReads (Some (Check script cert places)) P = Unit {0}
 UnlessReads (Some (Lrat cnf proof)) P = Unit {0}
 UnlessReads (Some (Trim script cert to places)) P = Unit {0}
+UnlessReads (Some (Clauses script cert places)) P = Unit {0}
 UnlessReads (Some (QCheck file cert places)) P = Unit {0}
 UnlessReads _ P = P
 

@@ -1,10 +1,11 @@
 //! The whole program as one function over sources and sinks: it solves a script or a quantified Boolean
-//! formula, checks a certificate beside it, trims one, checks the proof of a SAT solver, writes the
-//! generator's scripts, or does all of it in memory.
+//! formula, checks a certificate beside it, trims one, lists its clauses, checks the proof of a SAT
+//! solver, writes the generator's scripts, or does all of it in memory.
 #![tactic(auto)]
 
 mod bench;
 mod checking;
+mod clauses;
 mod formulas;
 mod opening;
 mod pages;

@@ -7,7 +7,7 @@ use qv_shell_args::Page;
 
 /// The usage line, with its line feed.
 pub(crate) const USAGE: &[u8] =
-    b"usage: qbv solve SCRIPT CERT [--conflicts N] [--instances N] [--variables N] | qbv check SCRIPT CERT | qbv gen N | qbv bench N | qbv lrat CNF PROOF | qbv trim SCRIPT CERT NEW | qbv qsolve FILE CERT [--conflicts N] [--instances N] [--variables N] | qbv qcheck FILE CERT\n";
+    b"usage: qbv solve SCRIPT CERT [--conflicts N] [--instances N] [--variables N] | qbv check SCRIPT CERT | qbv gen N | qbv bench N | qbv lrat CNF PROOF | qbv trim SCRIPT CERT NEW | qbv qsolve FILE CERT [--conflicts N] [--instances N] [--variables N] | qbv qcheck FILE CERT | qbv clauses SCRIPT CERT\n";
 
 // The page of help.
 const HELP: &[u8] = b"\
@@ -16,6 +16,7 @@ const HELP: &[u8] = b"\
     \x20      qbv check SCRIPT CERT [OPTION]    check the certificate CERT beside SCRIPT\n\
     \x20      qbv lrat CNF PROOF                check the LRAT proof PROOF of a SAT solver beside the clauses of CNF\n\
     \x20      qbv trim SCRIPT CERT NEW [OPTION] check CERT beside SCRIPT, and write its lines that are needed into NEW\n\
+    \x20      qbv clauses SCRIPT CERT [OPTION]  check CERT beside SCRIPT, and print the clauses that its sections refute, in the DIMACS format\n\
     \x20      qbv qsolve FILE CERT [OPTION..]   solve the quantified Boolean formula FILE in the QDIMACS format\n\
     \x20      qbv qcheck FILE CERT [OPTION]     check the certificate CERT beside such a formula\n\
     \x20      qbv gen N                         print a script of N blocks, of which the answers are known; N is at most 100000\n\
@@ -23,7 +24,7 @@ const HELP: &[u8] = b"\
     \x20      qbv -h, --help, help              print this page\n\
     \x20      qbv --version                     print the version\n\
     \n\
-    SCRIPT - is standard input. CERT - keeps nothing in solve, and in check and trim it is standard input where SCRIPT isn't.\n\
+    SCRIPT - is standard input. CERT - keeps nothing in solve, and in check, trim and clauses it is standard input where SCRIPT isn't.\n\
     CNF - or PROOF - is standard input, but not both. FILE - and CERT - are in qsolve as in solve, and in qcheck as in check.\n\
     NEW is the name of a file.\n\
     \n\
@@ -31,7 +32,7 @@ const HELP: &[u8] = b"\
     \x20 --conflicts N   learn at most N clauses (1000000)\n\
     \x20 --instances N   take at most N instances of quantifiers (10000)\n\
     \x20 --variables N   have at most N variables in a list of clauses (4000000)\n\
-    \x20 --places N      have at most N variables in the prefix of a problem, in check, trim and qcheck too (4096)\n\
+    \x20 --places N      have at most N variables in the prefix of a problem, in check, trim, clauses and qcheck too (4096)\n\
     \n\
     options, for the whole run:\n\
     \x20 --check         in solve, check each section before its answer is printed\n\
@@ -46,6 +47,7 @@ const HELP: &[u8] = b"\
     \x20 qbv solve first.smt2 first.cert --conflicts 500000\n\
     \x20 qbv check first.smt2 first.cert\n\
     \x20 qbv trim first.smt2 first.cert small.cert\n\
+    \x20 qbv clauses first.smt2 first.cert\n\
     \x20 qbv qsolve formula.qdimacs formula.cert\n\
     \x20 qbv gen 3 | qbv solve - - --variables 100000\n\
     \x20 qbv bench 20\n\

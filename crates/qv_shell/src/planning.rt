@@ -36,6 +36,7 @@ fn opened(call: Call) -> Plan
             to,
             ..
         } => Plan::Trim { script, cert, to },
+        Call::Clauses { script, cert, .. } => Plan::Check { script, cert },
         Call::QSolve { file, cert, .. } => Plan::Solve { script: file, cert },
         Call::QCheck { file, cert, .. } => Plan::Check { script: file, cert },
         Call::Gen(_) | Call::Bench(_) | Call::Print(_) => Plan::Alone,

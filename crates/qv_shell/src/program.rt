@@ -9,9 +9,10 @@ ghost use Rattle.qv_check_script.specs.Wanting.{WantsMore};
 ghost use Rattle.qv_shell.specs.Words.{page_text, usage};
 ghost use Rattle.qv_shell.specs.Lrat.{IsLratRun};
 ghost use Rattle.qv_shell.specs.Trimming.{IsTrimRun};
+ghost use Rattle.qv_shell.specs.Clauses.{IsClausesRun};
 ghost use Rattle.qv_shell.specs.Formulas.{IsQCheckRun, IsQSolveRun};
-ghost use Rattle.qv_shell.specs.Requests.{IfSolve, IfCheck, IfLrat, IfTrim, IfQSolve, IfQCheck};
-ghost use Rattle.qv_shell.specs.Requests.{IfGen, IfBench, IfPage, IfRefused};
+ghost use Rattle.qv_shell.specs.Requests.{IfSolve, IfCheck, IfLrat, IfTrim, IfClauses};
+ghost use Rattle.qv_shell.specs.Requests.{IfQSolve, IfQCheck, IfGen, IfBench, IfPage, IfRefused};
 ghost use Rattle.qv_shell.specs.Requests.{IfSolves, IfChecks, IfReads, IfWrites};
 ghost use Rattle.qv_shell.specs.Requests.{UnlessReads, UnlessWrites, UnlessScript, UnlessMetered};
 ghost use Rattle.qv_shell.specs.Requests.{IsDone, limits_with};
@@ -22,6 +23,7 @@ ghost use Rattle.qv_shell.specs.Bench.{IsBenchRun};
 
 use crate::bench::bench;
 use crate::checking::check;
+use crate::clauses::clauses;
 use crate::formulas::{qcheck, qsolve};
 use crate::pages::{USAGE, text_of};
 use crate::proving::prove;
@@ -70,6 +72,11 @@ pub fn run<S: Source, C: Source, O: Sink, P: Sink, W: Watch>(
     ensures trims { IfTrim (request_in (map string_bytes words.now)) (λ places.
         IsTrimRun places (S.left script.old) (C.left cert_in.old) (O.held out.old) (O.held out.new)
         (P.held cert_out.old) (P.held cert_out.new) result) }
+    // A certificate is checked beside its script, and the clauses are written that its sections
+    // refute: the status is the verdict's.
+    ensures lists { IfClauses (request_in (map string_bytes words.now)) (λ places.
+        IsClausesRun places (S.left script.old) (C.left cert_in.old) (O.held out.old)
+        (O.held out.new) result) }
     // A quantified Boolean formula is solved, or a certificate checked beside one.
     ensures qsolves { IfQSolve (request_in (map string_bytes words.now)) (λ settings.
         IsQSolveRun settings.places S.read_gives S.left (limits_with settings.budgets)
@@ -181,6 +188,9 @@ fn perform<S: Source, C: Source, O: Sink, P: Sink, W: Watch>(
     ensures trims { IfTrim (Some (request_of call.now)) (λ places.
         IsTrimRun places (S.left script.old) (C.left cert_in.old) (O.held out.old) (O.held out.new)
         (P.held cert_out.old) (P.held cert_out.new) result) }
+    ensures lists { IfClauses (Some (request_of call.now)) (λ places.
+        IsClausesRun places (S.left script.old) (C.left cert_in.old) (O.held out.old)
+        (O.held out.new) result) }
     ensures qsolves { IfQSolve (Some (request_of call.now)) (λ settings.
         IsQSolveRun settings.places S.read_gives S.left (limits_with settings.budgets)
         script.old script.new (O.held out.old) (O.held out.new) (P.held cert_out.old) (P.held cert_out.new)
@@ -251,6 +261,7 @@ fn perform<S: Source, C: Source, O: Sink, P: Sink, W: Watch>(
         Call::Check { places, .. } => check(alloc, *places, script, cert_in, out),
         Call::Lrat { .. } => prove(alloc, script, cert_in, out),
         Call::Trim { places, .. } => trim(alloc, *places, script, cert_in, out, cert_out),
+        Call::Clauses { places, .. } => clauses(alloc, *places, script, cert_in, out),
         Call::QSolve { settings, .. } => { qsolve(alloc, *settings, script, out, cert_out, meter) }
         Call::QCheck { places, .. } => qcheck(alloc, *places, script, cert_in, out),
         Call::Gen(number) => generate(alloc, *number, out),

@@ -2,7 +2,7 @@
 use Rattle.std.proofs.Common.{refl}
 use Rattle.std.specs.Prelude.{◌≡◌, true, false, [], ◌∷◌, Some, None, codes}
 use Rattle.clap.proofs.OnLiterals.{clap_on_literals}
-use Rattle.qv_shell_args.specs.Call.{Solve, Check, Lrat, Trim, QSolve, QCheck, Gen, Print, request_in, pair_in, checking_in, solving_in, trim_request, request_number, budgets_of, places_of}
+use Rattle.qv_shell_args.specs.Call.{Solve, Check, Lrat, Trim, Clauses, QSolve, QCheck, Gen, Print, request_in, pair_in, checking_in, solving_in, trim_request, request_number, budgets_of, places_of}
 use Rattle.qv_shell_args.specs.Commands.{matched}
 use Rattle.qv_shell_args.specs.Number.{number_in}
 use Rattle.qv_shell_args.specs.declared.calls.Budgets.{Budgets}
@@ -131,6 +131,16 @@ not-anew = refl
 anew-among-answers : request_in (codes "trim" ∷ codes "a" ∷ codes "b" ∷ codes "-" ∷ []) ≡ None
 unfolding clap_on_literals request_in trim_request matched places_of
 anew-among-answers = refl
+
+-- clauses a - --places 7
+clauses-words : request_in (codes "clauses" ∷ codes "a" ∷ codes "-" ∷ codes "--places" ∷ codes "7" ∷ []) ≡ Some (Clauses (codes "a") (codes "-") 7)
+unfolding clap_on_literals request_in checking_in matched places_of number_in
+clauses-words = refl
+
+-- clauses a
+no-cert : request_in (codes "clauses" ∷ codes "a" ∷ []) ≡ None
+unfolding clap_on_literals request_in checking_in matched places_of
+no-cert = refl
 
 -- qsolve a - --instances 7 --stats
 formula-solved : request_in (codes "qsolve" ∷ codes "a" ∷ codes "-" ∷ codes "--instances" ∷ codes "7" ∷ codes "--stats" ∷ [])

@@ -18,6 +18,7 @@ pub data Request : Type 0 where
   Check : Text → Text → (places : ℕ) → Request
   Lrat : Text → Text → Request
   Trim : Text → Text → Text → (places : ℕ) → Request
+  Clauses : Text → Text → (places : ℕ) → Request
   QSolve : Text → Text → Settings → Request
   QCheck : Text → Text → (places : ℕ) → Request
   Gen : ℕ → Request
@@ -29,6 +30,7 @@ request_of (call.Solve script cert settings) = Solve (string_bytes script) (stri
 request_of (call.Check script cert places) = Check (string_bytes script) (string_bytes cert) places
 request_of (call.Lrat cnf proof) = Lrat (string_bytes cnf) (string_bytes proof)
 request_of (call.Trim script cert to places) = Trim (string_bytes script) (string_bytes cert) (string_bytes to) places
+request_of (call.Clauses script cert places) = Clauses (string_bytes script) (string_bytes cert) places
 request_of (call.QSolve file cert settings) = QSolve (string_bytes file) (string_bytes cert) settings
 request_of (call.QCheck file cert places) = QCheck (string_bytes file) (string_bytes cert) places
 request_of (call.Gen number) = Gen number
@@ -140,6 +142,9 @@ trim_of rows = trim_with (checking_of (codes "SCRIPT") (codes "CERT") rows) (fir
 unfoldable pub trim_request : List Text → Option Request
 trim_request words = option_and_then trim_of (matched trim_command words)
 
+abbrev pub clauses_request : List Text → Option Request
+clauses_request words = option_map (λ c. Clauses c.0.0 c.0.1 c.1) (checking_in (codes "clauses") (codes "SCRIPT") (codes "CERT") words)
+
 abbrev pub qsolve_request : List Text → Option Request
 qsolve_request words = option_map (λ s. QSolve s.0.0 s.0.1 s.1) (solving_in qsolve_command (codes "FILE") words)
 
@@ -173,6 +178,7 @@ request_behind name words =
     else if bytes_eq name (codes "check") then check_request words
     else if bytes_eq name (codes "lrat") then lrat_request words
     else if bytes_eq name (codes "trim") then trim_request words
+    else if bytes_eq name (codes "clauses") then clauses_request words
     else if bytes_eq name (codes "qsolve") then qsolve_request words
     else if bytes_eq name (codes "qcheck") then qcheck_request words
     else if bytes_eq name (codes "gen") then option_map Gen (request_number (codes "gen") 100000 words)
@@ -201,6 +207,7 @@ IsInRanges (call.Solve script cert settings) = AreSettings settings
 IsInRanges (call.Check script cert places) = ArePlaces places
 IsInRanges (call.Lrat cnf proof) = Unit {0}
 IsInRanges (call.Trim script cert to places) = ArePlaces places
+IsInRanges (call.Clauses script cert places) = ArePlaces places
 IsInRanges (call.QSolve file cert settings) = AreSettings settings
 IsInRanges (call.QCheck file cert places) = ArePlaces places
 IsInRanges (call.Gen number) = number ≤ 100000

@@ -64,6 +64,12 @@ pub enum Call {
         to: String,
         places: u32,
     },
+    /// Check a certificate against a script, and write the clauses that its sections refute.
+    Clauses {
+        script: String,
+        cert: String,
+        places: u32,
+    },
     /// Solve a quantified Boolean formula and write a certificate.
     QSolve {
         file: String,

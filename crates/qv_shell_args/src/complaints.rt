@@ -23,6 +23,7 @@ fn of_words(alloc: Global, name: &str, words: &[String]) -> Result<String, Alloc
         "check" => of_checking(alloc, "check", "SCRIPT", "CERT", words),
         "lrat" => of_pair(alloc, "lrat", "CNF", "PROOF", words),
         "trim" => of_trim(alloc, words),
+        "clauses" => of_checking(alloc, "clauses", "SCRIPT", "CERT", words),
         "qsolve" => of_settings(alloc, commands::qsolve(alloc)?, words),
         "qcheck" => of_checking(alloc, "qcheck", "FILE", "CERT", words),
         "gen" => of_number(alloc, "gen", 100_000, words),

@@ -6,8 +6,9 @@ ghost use Rattle.clap.specs.Words.{app_of, first_of, found_of, is_simple_and_fre
 ghost use Rattle.qv_shell_args.specs.Answers.{Answers, checking_texts, pair_texts, solving_texts};
 ghost use Rattle.qv_shell_args.specs.Call.{ArePlaces, AreBudgets, AreSettings, IsCall, IsInRanges};
 ghost use Rattle.qv_shell_args.specs.Call.{IsRefusedCall, budget, budgets_of, check_request};
-ghost use Rattle.qv_shell_args.specs.Call.{checking_in, checking_of, has_flag, is_plain};
-ghost use Rattle.qv_shell_args.specs.Call.{lrat_request, number_of, pair_in, pair_of, places_of};
+ghost use Rattle.qv_shell_args.specs.Call.{checking_in, checking_of, clauses_request, has_flag};
+ghost use Rattle.qv_shell_args.specs.Call.{is_plain, lrat_request, number_of, pair_in, pair_of};
+ghost use Rattle.qv_shell_args.specs.Call.{places_of};
 ghost use Rattle.qv_shell_args.specs.Call.{qcheck_request, qsolve_request, request_behind};
 ghost use Rattle.qv_shell_args.specs.Call.{request_number, request_of, settings_of, solve_request};
 ghost use Rattle.qv_shell_args.specs.Call.{solving_in, solving_of, trim_of, trim_request, unkept};
@@ -54,6 +55,7 @@ fn call_behind(alloc: Global, name: &str, words: &[String]) -> Result<Call, Call
         "check" => check_call(alloc, words),
         "lrat" => lrat_call(alloc, words),
         "trim" => trim_call(alloc, words),
+        "clauses" => clauses_call(alloc, words),
         "qsolve" => qsolve_call(alloc, words),
         "qcheck" => qcheck_call(alloc, words),
         "gen" => Ok(Call::Gen(number(alloc, "gen", 100_000, words)?)),
@@ -152,6 +154,19 @@ fn trim_call(alloc: Global, words: &[String]) -> Result<Call, CallFault>
         Ok(matches) => trim_from(alloc, &matches),
         Err(fault) => Err(fault),
     }
+}
+
+// The call that the words behind `clauses` make.
+fn clauses_call(alloc: Global, words: &[String]) -> Result<Call, CallFault>
+    ensures call { Answers request_of (clauses_request (map string_bytes words.now)) result }
+    ensures ranges { IfOk result IsInRanges }
+{
+    let ((script, cert), places) = checking(alloc, "clauses", "SCRIPT", "CERT", words)?;
+    Ok(Call::Clauses {
+        script,
+        cert,
+        places,
+    })
 }
 
 // The call that the words behind `qsolve` make.

@@ -72,6 +72,16 @@ fn say(call: Result<Call, CallFault>, out: &mut Answer) {
             say_number("|", u64::from(places), out);
         }
         Ok(
+            Call::Clauses {
+                script,
+                cert,
+                places,
+            },
+        ) => {
+            say_files("clauses", script.as_str(), cert.as_str(), out);
+            say_number("|", u64::from(places), out);
+        }
+        Ok(
             Call::QSolve {
                 file,
                 cert,

@@ -65,7 +65,7 @@ impl Tail {
         }
     }
 
-    /// The place and the kind of the fault that the last line says.
+    /// The place and the kind of the fault that the last line says, perhaps in a comment of DIMACS.
     pub(crate) fn fault(&self) -> Option<(u64, &str)> {
         let text = self.bytes.strip_suffix(b"\")\n")?;
         let start = match text.iter().rposition(|byte| *byte == b'\n') {
@@ -73,6 +73,7 @@ impl Tail {
             None => 0,
         };
         let line = str::from_utf8(&text[start..]).ok()?;
+        let line = line.strip_prefix("c ").unwrap_or(line);
         let (place, kind) = line.strip_prefix("(error \"at ")?.split_once(": ")?;
         Some((place.parse::<u64>().ok()?, kind))
     }

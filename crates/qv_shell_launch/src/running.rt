@@ -10,10 +10,11 @@ ghost use Rattle.qv_shell.specs.Host.{IsGenRun, IsWritingUnless, RanShort, Wants
 ghost use Rattle.qv_shell.specs.Host.{StopsReading, StopsWriting};
 ghost use Rattle.qv_shell.specs.Lrat.{IsLratRun};
 ghost use Rattle.qv_shell.specs.Trimming.{IsTrimRun};
+ghost use Rattle.qv_shell.specs.Clauses.{IsClausesRun};
 ghost use Rattle.qv_shell.specs.Formulas.{IsQCheckRun, IsQSolveRun};
-ghost use Rattle.qv_shell.specs.Requests.{IfSolve, IfCheck, IfLrat, IfTrim, IfQSolve, IfQCheck};
-ghost use Rattle.qv_shell.specs.Requests.{IfGen, IfBench, IfPage, IfRefused, UnlessReads};
-ghost use Rattle.qv_shell.specs.Requests.{limits_with};
+ghost use Rattle.qv_shell.specs.Requests.{IfSolve, IfCheck, IfLrat, IfTrim, IfClauses};
+ghost use Rattle.qv_shell.specs.Requests.{IfQSolve, IfQCheck, IfGen, IfBench, IfPage, IfRefused};
+ghost use Rattle.qv_shell.specs.Requests.{UnlessReads, limits_with};
 ghost use Rattle.qv_shell.specs.Solving.{IsSolveRun};
 ghost use Rattle.qv_shell.specs.Words.{page_text, usage};
 
@@ -60,6 +61,9 @@ pub trait Run {
         ensures trims { IfTrim (request self.old) (λ places.
             IsTrimRun places (S.left script.old) (C.left cert_in.old) (O.held out.old) (O.held out.new)
             (P.held cert_out.old) (P.held cert_out.new) result) }
+        ensures lists { IfClauses (request self.old) (λ places.
+            IsClausesRun places (S.left script.old) (C.left cert_in.old) (O.held out.old)
+            (O.held out.new) result) }
         ensures qsolves { IfQSolve (request self.old) (λ settings.
             IsQSolveRun settings.places S.read_gives S.left (limits_with settings.budgets)
             script.old script.new (O.held out.old) (O.held out.new) (P.held cert_out.old) (P.held cert_out.new)

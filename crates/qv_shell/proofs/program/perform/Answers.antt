@@ -33,6 +33,9 @@ returns-in-Solve-clause-proves g c = rw c.in-Solve.is tt
 pub returns-in-Solve-clause-trims : goal.returns-in-Solve-clause-trims
 returns-in-Solve-clause-trims g c = rw c.in-Solve.is tt
 
+pub returns-in-Solve-clause-lists : goal.returns-in-Solve-clause-lists
+returns-in-Solve-clause-lists g c = rw c.in-Solve.is tt
+
 pub returns-in-Solve-clause-qsolves : goal.returns-in-Solve-clause-qsolves
 returns-in-Solve-clause-qsolves g c = rw c.in-Solve.is tt
 
@@ -97,6 +100,9 @@ returns-in-Check-clause-proves g c = rw c.in-Check.is tt
 
 pub returns-in-Check-clause-trims : goal.returns-in-Check-clause-trims
 returns-in-Check-clause-trims g c = rw c.in-Check.is tt
+
+pub returns-in-Check-clause-lists : goal.returns-in-Check-clause-lists
+returns-in-Check-clause-lists g c = rw c.in-Check.is tt
 
 pub returns-in-Check-clause-qsolves : goal.returns-in-Check-clause-qsolves
 returns-in-Check-clause-qsolves g c = rw c.in-Check.is tt
@@ -163,6 +169,9 @@ returns-in-Lrat-clause-proves g c = rw c.in-Lrat.is c.prove.ensures.run
 pub returns-in-Lrat-clause-trims : goal.returns-in-Lrat-clause-trims
 returns-in-Lrat-clause-trims g c = rw c.in-Lrat.is tt
 
+pub returns-in-Lrat-clause-lists : goal.returns-in-Lrat-clause-lists
+returns-in-Lrat-clause-lists g c = rw c.in-Lrat.is tt
+
 pub returns-in-Lrat-clause-qsolves : goal.returns-in-Lrat-clause-qsolves
 returns-in-Lrat-clause-qsolves g c = rw c.in-Lrat.is tt
 
@@ -228,6 +237,9 @@ returns-in-Trim-clause-proves g c = rw c.in-Trim.is tt
 pub returns-in-Trim-clause-trims : goal.returns-in-Trim-clause-trims
 returns-in-Trim-clause-trims g c = rw c.in-Trim.is c.trim.ensures.run
 
+pub returns-in-Trim-clause-lists : goal.returns-in-Trim-clause-lists
+returns-in-Trim-clause-lists g c = rw c.in-Trim.is tt
+
 pub returns-in-Trim-clause-qsolves : goal.returns-in-Trim-clause-qsolves
 returns-in-Trim-clause-qsolves g c = rw c.in-Trim.is tt
 
@@ -279,6 +291,74 @@ returns-in-Trim-clause-cert_out g c = rw c.in-Trim.is tt
 pub returns-in-Trim-clause-meter : goal.returns-in-Trim-clause-meter
 returns-in-Trim-clause-meter g c = rw c.in-Trim.is refl
 
+-- ---- a certificate is, and its clauses are listed
+
+pub returns-in-Clauses-clause-solves : goal.returns-in-Clauses-clause-solves
+returns-in-Clauses-clause-solves g c = rw c.in-Clauses.is tt
+
+pub returns-in-Clauses-clause-checks : goal.returns-in-Clauses-clause-checks
+returns-in-Clauses-clause-checks g c = rw c.in-Clauses.is tt
+
+pub returns-in-Clauses-clause-proves : goal.returns-in-Clauses-clause-proves
+returns-in-Clauses-clause-proves g c = rw c.in-Clauses.is tt
+
+pub returns-in-Clauses-clause-trims : goal.returns-in-Clauses-clause-trims
+returns-in-Clauses-clause-trims g c = rw c.in-Clauses.is tt
+
+pub returns-in-Clauses-clause-lists : goal.returns-in-Clauses-clause-lists
+returns-in-Clauses-clause-lists g c = rw c.in-Clauses.is c.clauses.ensures.run
+
+pub returns-in-Clauses-clause-qsolves : goal.returns-in-Clauses-clause-qsolves
+returns-in-Clauses-clause-qsolves g c = rw c.in-Clauses.is tt
+
+pub returns-in-Clauses-clause-qchecks : goal.returns-in-Clauses-clause-qchecks
+returns-in-Clauses-clause-qchecks g c = rw c.in-Clauses.is tt
+
+pub returns-in-Clauses-clause-generates : goal.returns-in-Clauses-clause-generates
+returns-in-Clauses-clause-generates g c = rw c.in-Clauses.is tt
+
+pub returns-in-Clauses-clause-benches : goal.returns-in-Clauses-clause-benches
+returns-in-Clauses-clause-benches g c = rw c.in-Clauses.is tt
+
+pub returns-in-Clauses-clause-pages : goal.returns-in-Clauses-clause-pages
+returns-in-Clauses-clause-pages g c = rw c.in-Clauses.is tt
+
+pub returns-in-Clauses-clause-read : goal.returns-in-Clauses-clause-read
+returns-in-Clauses-clause-read g c = rw c.in-Clauses.is tt
+
+pub returns-in-Clauses-clause-cert_read : goal.returns-in-Clauses-clause-cert_read
+returns-in-Clauses-clause-cert_read g c = rw c.in-Clauses.is c.clauses.ensures.read
+
+pub returns-in-Clauses-clause-write : goal.returns-in-Clauses-clause-write
+returns-in-Clauses-clause-write g c = rw c.in-Clauses.is c.clauses.ensures.write
+
+pub returns-in-Clauses-clause-cert_write : goal.returns-in-Clauses-clause-cert_write
+returns-in-Clauses-clause-cert_write g c = rw c.in-Clauses.is tt
+
+pub returns-in-Clauses-clause-solve_ends : goal.returns-in-Clauses-clause-solve_ends
+returns-in-Clauses-clause-solve_ends g c = rw c.in-Clauses.is tt
+
+pub returns-in-Clauses-clause-check_ends : goal.returns-in-Clauses-clause-check_ends
+returns-in-Clauses-clause-check_ends g c = rw c.in-Clauses.is c.clauses.ensures.complete
+
+pub returns-in-Clauses-clause-trim_ends : goal.returns-in-Clauses-clause-trim_ends
+returns-in-Clauses-clause-trim_ends g c = rw c.in-Clauses.is tt
+
+pub returns-in-Clauses-clause-ends : goal.returns-in-Clauses-clause-ends
+returns-in-Clauses-clause-ends g c = rw c.in-Clauses.is tt
+
+pub returns-in-Clauses-clause-script : goal.returns-in-Clauses-clause-script
+returns-in-Clauses-clause-script g c = rw c.in-Clauses.is tt
+
+pub returns-in-Clauses-clause-cert_in : goal.returns-in-Clauses-clause-cert_in
+returns-in-Clauses-clause-cert_in g c = rw c.in-Clauses.is tt
+
+pub returns-in-Clauses-clause-cert_out : goal.returns-in-Clauses-clause-cert_out
+returns-in-Clauses-clause-cert_out g c = rw c.in-Clauses.is refl
+
+pub returns-in-Clauses-clause-meter : goal.returns-in-Clauses-clause-meter
+returns-in-Clauses-clause-meter g c = rw c.in-Clauses.is refl
+
 -- ---- a formula is solved
 
 pub returns-in-QSolve-clause-solves : goal.returns-in-QSolve-clause-solves
@@ -292,6 +372,9 @@ returns-in-QSolve-clause-proves g c = rw c.in-QSolve.is tt
 
 pub returns-in-QSolve-clause-trims : goal.returns-in-QSolve-clause-trims
 returns-in-QSolve-clause-trims g c = rw c.in-QSolve.is tt
+
+pub returns-in-QSolve-clause-lists : goal.returns-in-QSolve-clause-lists
+returns-in-QSolve-clause-lists g c = rw c.in-QSolve.is tt
 
 pub returns-in-QSolve-clause-qsolves : goal.returns-in-QSolve-clause-qsolves
 returns-in-QSolve-clause-qsolves g c = rw c.in-QSolve.is c.qsolve.ensures.run
@@ -358,6 +441,9 @@ returns-in-QCheck-clause-proves g c = rw c.in-QCheck.is tt
 pub returns-in-QCheck-clause-trims : goal.returns-in-QCheck-clause-trims
 returns-in-QCheck-clause-trims g c = rw c.in-QCheck.is tt
 
+pub returns-in-QCheck-clause-lists : goal.returns-in-QCheck-clause-lists
+returns-in-QCheck-clause-lists g c = rw c.in-QCheck.is tt
+
 pub returns-in-QCheck-clause-qsolves : goal.returns-in-QCheck-clause-qsolves
 returns-in-QCheck-clause-qsolves g c = rw c.in-QCheck.is tt
 
@@ -422,6 +508,9 @@ returns-in-Gen-clause-proves g c = rw c.in-Gen.is tt
 
 pub returns-in-Gen-clause-trims : goal.returns-in-Gen-clause-trims
 returns-in-Gen-clause-trims g c = rw c.in-Gen.is tt
+
+pub returns-in-Gen-clause-lists : goal.returns-in-Gen-clause-lists
+returns-in-Gen-clause-lists g c = rw c.in-Gen.is tt
 
 pub returns-in-Gen-clause-qsolves : goal.returns-in-Gen-clause-qsolves
 returns-in-Gen-clause-qsolves g c = rw c.in-Gen.is tt
@@ -492,6 +581,9 @@ returns-in-Bench-clause-proves g c = rw c.in-Bench.is tt
 pub returns-in-Bench-clause-trims : goal.returns-in-Bench-clause-trims
 returns-in-Bench-clause-trims g c = rw c.in-Bench.is tt
 
+pub returns-in-Bench-clause-lists : goal.returns-in-Bench-clause-lists
+returns-in-Bench-clause-lists g c = rw c.in-Bench.is tt
+
 pub returns-in-Bench-clause-qsolves : goal.returns-in-Bench-clause-qsolves
 returns-in-Bench-clause-qsolves g c = rw c.in-Bench.is tt
 
@@ -560,6 +652,9 @@ returns-in-Print-clause-proves g c = rw c.in-Print.is tt
 
 pub returns-in-Print-clause-trims : goal.returns-in-Print-clause-trims
 returns-in-Print-clause-trims g c = rw c.in-Print.is tt
+
+pub returns-in-Print-clause-lists : goal.returns-in-Print-clause-lists
+returns-in-Print-clause-lists g c = rw c.in-Print.is tt
 
 pub returns-in-Print-clause-qsolves : goal.returns-in-Print-clause-qsolves
 returns-in-Print-clause-qsolves g c = rw c.in-Print.is tt

@@ -1,10 +1,11 @@
 use Rattle.std.proofs.Common.{◌≡◌, ◌≤◌, Some, None, map, string_bytes, inl, refl, arith}
 use Rattle.qv_shell_args.specs.Call.{request_in, request_of}
 use Rattle.qv_meter.specs.Records.{records_of}
-use Rattle.qv_shell.proofs.Asked.{if-bench, if-check, if-checks, if-gen, if-lrat, if-page, if-qcheck, if-qsolve, if-reads, if-refused, if-solve, if-solves, if-trim, if-writes, printed, unbenched, unchecked, ungenerated, unless-metered, unless-reads, unless-script, unless-writes, unprinted, unrefused, unsolved}
+use Rattle.qv_shell.proofs.Asked.{if-bench, if-check, if-checks, if-clauses, if-gen, if-lrat, if-page, if-qcheck, if-qsolve, if-reads, if-refused, if-solve, if-solves, if-trim, if-writes, printed, unbenched, unchecked, ungenerated, unless-metered, unless-reads, unless-script, unless-writes, unprinted, unrefused, unsolved}
 use Rattle.qv_shell.proofs.Quantified.{unanswered, unjudged}
 use Rattle.qv_shell.proofs.Proved.{unproved}
 use Rattle.qv_shell.proofs.Trimmings.{untrimmed}
+use Rattle.qv_shell.proofs.Listings.{unlisted}
 use Rattle.qv_shell.proofs.Wrote.{ended-text, unread-text, unwritten-text}
 use Rattle.qv_shell.proofs.program.run.Goals as goal
 
@@ -29,6 +30,11 @@ pub returns-in-Ok-clause-trims : goal.returns-in-Ok-clause-trims
 returns-in-Ok-clause-trims g c =
     let asked : request_in (map string_bytes c.args.words.now) ≡ Some (request_of c.in-Ok.call) = c.in-Ok.ensures.call in
     rw asked c.perform.ensures.trims
+
+pub returns-in-Ok-clause-lists : goal.returns-in-Ok-clause-lists
+returns-in-Ok-clause-lists g c =
+    let asked : request_in (map string_bytes c.args.words.now) ≡ Some (request_of c.in-Ok.call) = c.in-Ok.ensures.call in
+    rw asked c.perform.ensures.lists
 
 pub returns-in-Ok-clause-qsolves : goal.returns-in-Ok-clause-qsolves
 returns-in-Ok-clause-qsolves g c =
@@ -142,6 +148,11 @@ returns-in-Err-Refused-clause-trims g c =
     let asked : request_in (map string_bytes c.args.words.now) ≡ None = c.call_of.ensures.refused cc in
     rw asked tt
 
+pub returns-in-Err-Refused-clause-lists : goal.returns-in-Err-Refused-clause-lists
+returns-in-Err-Refused-clause-lists g c =
+    let asked : request_in (map string_bytes c.args.words.now) ≡ None = c.call_of.ensures.refused cc in
+    rw asked tt
+
 pub returns-in-Err-Refused-clause-qsolves : goal.returns-in-Err-Refused-clause-qsolves
 returns-in-Err-Refused-clause-qsolves g c =
     let asked : request_in (map string_bytes c.args.words.now) ≡ None = c.call_of.ensures.refused cc in
@@ -249,6 +260,10 @@ returns-in-Err-NoMemory-clause-proves g c =
 pub returns-in-Err-NoMemory-clause-trims : goal.returns-in-Err-NoMemory-clause-trims
 returns-in-Err-NoMemory-clause-trims g c =
     if-trim (request_in (map string_bytes c.args.words.now)) (untrimmed c.trimmed_are_accepted.ensures (g.S.Source.left c.args.script.now) (g.C.Source.left c.args.cert_in.now) (g.O.Sink.held c.args.out.now) (g.P.Sink.held c.args.cert_out.now))
+
+pub returns-in-Err-NoMemory-clause-lists : goal.returns-in-Err-NoMemory-clause-lists
+returns-in-Err-NoMemory-clause-lists g c =
+    if-clauses (request_in (map string_bytes c.args.words.now)) (unlisted (g.S.Source.left c.args.script.now) (g.C.Source.left c.args.cert_in.now) (g.O.Sink.held c.args.out.now))
 
 pub returns-in-Err-NoMemory-clause-qsolves : goal.returns-in-Err-NoMemory-clause-qsolves
 returns-in-Err-NoMemory-clause-qsolves g c =

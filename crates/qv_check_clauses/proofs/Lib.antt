@@ -1,0 +1,5 @@
+mod Refuted
+mod Written
+mod Counted
+mod Followed
+pub mod Listed

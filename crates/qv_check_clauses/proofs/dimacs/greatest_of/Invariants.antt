@@ -1,0 +1,9 @@
+-- of the clauses so far
+use Rattle.std.proofs.Common.{◌≡◌, take}
+use Rattle.qv_cnf.specs.Listing.{clauses_of}
+use Rattle.qv_rup.specs.Shelving.{picked}
+use Rattle.qv_check_clauses.specs.Clauses.{greatest}
+use Rattle.qv_check_clauses.proofs.dimacs.greatest_of.Given as goal
+
+abbrev pub invariant-clauses : goal.invariant-clauses
+invariant-clauses l = l.greatest ≡ greatest (clauses_of (picked (take l.id-index l.ids) l.checker.live))
