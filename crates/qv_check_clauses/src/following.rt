@@ -61,6 +61,7 @@ fn add_next(
     let counts = Counts {
         conflicts: 0,
         instances: 0,
+        variables: 0,
     };
     course.script.answered(last, counts);
     Ok(answer)
