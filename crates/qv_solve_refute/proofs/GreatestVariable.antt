@@ -1,25 +1,14 @@
 -- The greatest variable of clauses under ids from 1 on, one clause after the other.
-use Rattle.std.proofs.Common.{◌≡◌, ℕ, zero, suc, ◌+◌, ◌<◌, ◌≤◌, ◌==◌, Bool, true, false, cond, Option, Some, None, List, [], ◌∷◌, ◌++◌, length, take, get_or, slice_get, refl, sym, ap, ◌∙◌, arith}
+use Rattle.std.proofs.Common.{◌≡◌, ℕ, zero, suc, ◌+◌, ◌<◌, ◌≤◌, ◌==◌, Bool, true, false, cond, Option, Some, None, List, [], ◌∷◌, ◌++◌, length, take, slice_get, refl, sym, ap, ◌∙◌, arith}
 use Rattle.std.specs.Prelude.{max}
 use Rattle.std.specs.List.{fold}
 use Rattle.std.proofs.lemmas.Bool.Decides.{nat_tests}
-use Rattle.std.proofs.lemmas.List.Sums.{fold-append, fold_more}
+use Rattle.std.proofs.lemmas.List.Sums.{fold-append}
 use Rattle.qv_words.proofs.Elements.{take-one}
 use Rattle.qv_cnf.specs.Literal.{Literal}
 use Rattle.qv_cnf.specs.Listing.{Numbered, clause_named}
 use Rattle.qv_cert_formulas.specs.Numbers.{under_ids}
 use Rattle.qv_solve_refute.specs.Greatest.{greatest_variable}
-
--- ---- one more literal
-
-pub greater-literal : (number : ℕ) (lits : List Literal) (i : ℕ) (l : Literal) (now v new : ℕ) → i < length lits → l ≡ get_or lits i l → now ≡ fold (λ m x. max m x.variable) number (take i lits) → v ≡ l.variable → new ≡ max now v
-    → new ≡ fold (λ m x. max m x.variable) number (take (i + 1) lits)
-greater-literal number lits i l now v new h is before own more =
-    let step = fold_more (λ m (x : Literal). max m x.variable) number lits i l h in
-    let same : v ≡ (get_or lits i l).variable = own ∙ ap (λ (x : Literal). x.variable) is in
-    more ∙ ap (λ n. max n v) before ∙ ap (λ n. max (fold (λ m (x : Literal). max m x.variable) number (take i lits)) n) same ∙ sym step
-
--- ---- one more clause
 
 -- a clause by its id
 named-in : (id k n : ℕ) (cs : List (List Literal)) → n ≡ id + k → clause_named n (under_ids id cs) ≡ slice_get cs k

@@ -31,16 +31,6 @@ pub(crate) fn greatest_variable(clauses: &ClauseList) -> Result<u32, NoMemory>
 fn greatest_behind(number: u32, lits: &[Lit]) -> u32
     ensures { result ≡ fold (λ m l. max m l.variable) number lits.now }
 {
-    let mut greatest = number;
-    'literals: for lit in lits {
-        greatest = greater(greatest, lit.variable());
-    }
-    greatest
-}
-
-// The greater number.
-fn greater(one: u32, other: u32) -> u32
-    ensures { result ≡ max one other }
-{
-    if one < other { other } else { one }
+    lits.iter()
+        .fold(number, |greatest, lit| greatest.max(lit.variable()))
 }
