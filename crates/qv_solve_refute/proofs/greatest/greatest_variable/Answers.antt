@@ -12,7 +12,7 @@ pub clauses-preserved : goal.clauses-preserved
 clauses-preserved c =
     let cs = clauses_of c.args.clauses.now.live in
     let live : c.args.clauses.now.live ≡ under_ids 1 cs = ap (λ (l : Listing). l.live) c.requires ∙ live-from_one cs in
-    greatest-next cs c.args.clauses.now.live c.clauses.id c.clauses.greatest c.greatest_behind.result c.in-Some.lits.now live c.clauses.invariant c.in-Some.ensures c.greatest_behind.ensures
+    greatest-next cs c.args.clauses.now.live c.clauses.id c.clauses.greatest c.greatest_behind-greatest.result c.in-Some.lits.now live c.clauses.invariant c.in-Some.ensures c.greatest_behind-greatest.ensures
 
 pub returns-in-None : goal.returns-in-None
 returns-in-None c =
