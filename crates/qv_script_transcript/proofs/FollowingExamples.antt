@@ -64,8 +64,8 @@ of-limit = record {
 -- what a check was charged for
 of-statistics : IsTranscriptOf 4096
     (codes "(get-info :all-statistics)(check-sat)(get-info :all-statistics)")
-    (with_answer 0 [] (Unknown Instances) (record { conflicts = 12; instances = 3 }) ∷ [])
-    (codes "()\nunknown\n(:conflicts 12 :instances 3)\n") 0
+    (with_answer 0 [] (Unknown Instances) (record { conflicts = 12; instances = 3; variables = 0 }) ∷ [])
+    (codes "()\nunknown\n(:conflicts 12 :instances 3 :variables 0)\n") 0
 unfolding operator_named reserved_construct commands infos settings digits problem_of form_within matched tokens_behind run quoted_len text_len literal behind_hash behind_colon behind_dot behind_digits number behind_zero token_at is_reserved kind_of is_white is_line_end is_digit is_binary is_letter is_hex is_symbol begins_symbol
 of-statistics = record {
   pieces = _;
