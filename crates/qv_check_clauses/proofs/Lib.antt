@@ -2,4 +2,5 @@ mod Refuted
 mod Written
 mod Counted
 mod Followed
+mod ClausesExample
 pub mod Listed
