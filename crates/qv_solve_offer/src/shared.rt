@@ -16,10 +16,8 @@ use qv_store::{Id, NoMemory, Store};
 use qv_words::Word;
 use std::alloc::Global;
 
-// How many conflicts a search may take, and how many more for each formula.
+// How many conflicts a search may take.
 const MOST_CONFLICTS: u64 = 2_000;
-
-const CONFLICTS_A_FORMULA: u64 = 8;
 
 // Checks of fewer formulas are small, and are quicker alone.
 const FEW_FORMULAS: usize = 4;
