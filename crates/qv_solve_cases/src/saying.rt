@@ -196,7 +196,7 @@ pub fn say_lines(alloc: Global, out: &mut Said, solved: &Result<Solved, SolveFau
 {
     match solved {
         Ok(Solved::Sat { section, .. }) => say_text(alloc, out, section),
-        Ok(Solved::Unsat { section }) => say_text(alloc, out, section),
+        Ok(Solved::Unsat { section, .. }) => say_text(alloc, out, section),
         Ok(Solved::Unknown { section, .. }) => say_text(alloc, out, section),
         Err(_) => {}
     }
