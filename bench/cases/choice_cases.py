@@ -331,7 +331,7 @@ def cases(chosen):
     offered(1, 2, 0, ("=", [("bvadd", [x, z]), z]), "v2:8 v2:8 bvsub")
     offered(5, 9, 7, ("=", [x, y]), "no terms")
     offered(0, 1, 0, ("and", [("=", [x, y]), "v0:bool"]), "v1:8; bool:1; bool:0")
-    offered(0, 1, 2**64 - 1, ("=", [f"v{2**64 - 1}:8", y]), "v1:8")
+    offered(0, 1, 1_000_000, ("=", ["v1000000:8", y]), "v1:8")
     offered(2**64 - 1, 2**64 - 1, 0, ("=", [x, y]), "v1:8")
     note("these aren't cases: a quantifier, and what can't be read")
     refused = [
