@@ -492,8 +492,9 @@ def words(*all_words, take=4096, take_fails=(), room=4096):
     source, sink = Source(b"(check-sat)"), Sink(take, room, take_fails)
     plan, text, status = called(all_words)
     sections = 0
-    if all_words[:1] in ((b"lrat",), (b"qsolve",)) and status == 1:
-        # The line of the fault has no LF: it ends where the source does. A quantified formula is taken whole.
+    if all_words[:1] in ((b"lrat",), (b"qsolve",)) and status == 1 or all_words[:1] == (b"clauses",) and status == 6:
+        # The line of the fault has no LF: it ends where the source does. A quantified formula is taken whole, and
+        # so is a script whose clauses are listed.
         source.read(4096), source.read(4096)
     if text is None:
         status, certificate, _ = solve(source, sink)
