@@ -80,9 +80,10 @@ struct Words<'a, R> {
     ended: Option<Status>,
 }
 
-impl<'a, R: Clock> Words<'a, R> {
+impl<'a, R: Clock + AllocGlobal> Words<'a, R> {
     // Of these words.
-    fn new(alloc: Global, words: &'a [String]) -> Words<'a, R> {
+    fn new(rt: &'a R, words: &'a [String]) -> Words<'a, R> {
+        let alloc = rt.alloc();
         Words {
             alloc,
             words,
@@ -349,7 +350,7 @@ fn answer<R: Files + Env + Clock + AllocGlobal>(
     match words(rt) {
         Ok(Some(words)) => answer_words(rt, &words, streams, progress),
         Ok(None) => {
-            let mut run: Words<'_, R> = Words::new(rt.alloc(), &[]);
+            let mut run = Words::new(rt, &[]);
             run_alone(&mut run, Some("a word isn't UTF-8"), streams)
         }
         Err(AllocError) => stop(&streams.report),
@@ -363,7 +364,7 @@ fn answer_words<R: Files + Clock + AllocGlobal>(
     streams: Streams,
     progress: Report,
 ) -> Status {
-    let mut run = Words::new(rt.alloc(), words);
+    let mut run = Words::new(rt, words);
     run.begin(rt, progress);
     let plan = plan(rt.alloc(), words);
     match &plan {
