@@ -1260,8 +1260,8 @@ def write_budgets():
     run(BOTH.replace(b"(check-sat)", b"(check-sat)" * 3) + b"(push)(pop)(check-sat)" + REASON, conflicts=1)
     twice = b"(declare-const p Bool)(push)(assert p)(check-sat)" + REASON + b"(pop)(check-sat)" + QUANTIFIED + b"(check-sat)" + REASON
     run(twice, variables=1, known={1: spent("variables"), 3: spent("variables")})
-    note("\nA later check without quantifiers takes values that are offered, and needs no clauses for them.")
-    run(ONE + b"(check-sat)(get-value (p))", variables=1, known={1: spent("variables")})
+    note("\nA later check without quantifiers takes values that are offered, where it has four formulas, and needs no clauses for them.")
+    run(ONE.replace(b"(assert p)", b"(assert p)" * 4) + b"(check-sat)(get-value (p))", variables=1, known={1: spent("variables")})
     run(b"(declare-const p Bool)(assert (= p p))(check-sat-assuming ((not p)))" + REASON + REASON + b"(get-info :name)" + REASON,
         variables=1, known=numbered(spent("variables")))
     for between in (b"(assert true)", b"(push)", b"(pop)", b"(push 0)", b"(declare-const q Bool)", b"(define-fun q () Bool p)", b"(reset)", b"(reset-assertions)",
