@@ -1,0 +1,61 @@
+-- Factors and monomials in order.
+use Rattle.std.proofs.Common.{◌≡◌, ℕ, zero, suc, ◌+◌, ◌<◌, ◌≤◌, ◌==◌, Bool, true, false, cond, not, ◌&&◌, ◌||◌, List, [], ◌∷◌, ◌++◌, map, length, get_or, drop, refl, ap, sym, ◌∙◌, subst, arith}
+use Rattle.std.specs.Prelude.{nat_lt}
+use Rattle.std.specs.List.{AllByRecursion, insert}
+use Rattle.std.proofs.lemmas.List.{drop_more, drop_all}
+use Rattle.qv_words.specs.Tree.{Tree, Constant, Variable, Literal, Apply, ForAll, Exists}
+use Rattle.qv_words.specs.Sums.{Monomial, Polynomial, comes_before, factors_before, put_in, in_order, with_order}
+use Rattle.qv_store.specs.Nodes.{tree_at}
+use Rattle.qv_rewrite_sums.specs.declared.product.Product.{Product}
+use Rattle.qv_rewrite_sums.specs.Held.{monomial_at, sum_at, class_of, number_in, product_before, place_or_end, IsWord, IsOfWords, AreOfWords}
+use Rattle.qv_rewrite_sums.proofs.Lists.{put-at_place}
+
+-- by classes, and by numbers in a class
+pub before-ranked : (t u : Tree) → (nat_lt (class_of t) (class_of u) || class_of t == class_of u && nat_lt (number_in t) (number_in u)) ≡ comes_before t u
+before-ranked (Constant i s) (Constant j r) = refl
+before-ranked (Constant i s) u = refl
+before-ranked (Variable l s) (Constant j r) = refl
+before-ranked (Variable l s) (Variable k r) = refl
+before-ranked (Variable l s) u = refl
+before-ranked t (Constant j r) = refl
+before-ranked t (Variable k r) = refl
+before-ranked t u = refl
+
+-- one factor on, where neither comes before the other
+pub factors-on : (trees : List Tree) (a b : List ℕ) (k x y : ℕ) → k < length a → k < length b → x ≡ get_or a k x → y ≡ get_or b k y → comes_before (tree_at trees x) (tree_at trees y) ≡ false → comes_before (tree_at trees y) (tree_at trees x) ≡ false
+    → factors_before (map (tree_at trees) (drop (k + 1) a)) (map (tree_at trees) (drop (k + 1) b)) ≡ factors_before (map (tree_at trees) (drop k a)) (map (tree_at trees) (drop k b))
+factors-on trees a b k x y la lb ax by p q =
+    let F : List ℕ → List ℕ → Bool = λ ns ms. factors_before (map (tree_at trees) ns) (map (tree_at trees) ms) in
+    sym (ap (λ (ns : List ℕ). F ns (drop k b)) (first a k x la ax)
+    ∙ ap (λ (ms : List ℕ). F (x ∷ drop (k + 1) a) ms) (first b k y lb by)
+    ∙ ap (λ (z : Bool). z || not (comes_before (tree_at trees y) (tree_at trees x)) && F (drop (k + 1) a) (drop (k + 1) b)) p
+    ∙ ap (λ (z : Bool). not z && F (drop (k + 1) a) (drop (k + 1) b)) q)
+  where
+    first : (ns : List ℕ) (i z : ℕ) → i < length ns → z ≡ get_or ns i z → drop i ns ≡ z ∷ drop (i + 1) ns
+    first ns i z low at = drop_more ns i z low ∙ ap (λ (m : ℕ). m ∷ drop (i + 1) ns) (sym at)
+
+-- and where the first list is longer, or the first factor decides
+pub factors-longer : (trees : List Tree) (a b : List ℕ) (k : ℕ) → k < length a → length b ≤ k → factors_before (map (tree_at trees) (drop k a)) (map (tree_at trees) (drop k b)) ≡ true
+factors-longer trees a b k la lb =
+    ap (λ (ns : List ℕ). factors_before (map (tree_at trees) ns) (map (tree_at trees) (drop k b))) (drop_more a k 0 la)
+    ∙ ap (λ (ms : List ℕ). factors_before (map (tree_at trees) (get_or a k 0 ∷ drop (k + 1) a)) (map (tree_at trees) ms)) (drop_all k b lb)
+
+-- what stands in order has the same elements
+all-put : {X : Type 0} (P : X → Type 0) (before : X → X → Bool) (x : X) (xs : List X) → P x → AllByRecursion P xs → AllByRecursion P (put_in before x xs)
+all-put P before x [] h k = (h, tt)
+all-put {X} P before x (y ∷ ys) h k = go (before y x) (all-put P before x ys h k.1)
+  where
+    go : (b : Bool) → AllByRecursion P (put_in before x ys) → AllByRecursion P (cond b (y ∷ put_in before x ys) (x ∷ y ∷ ys))
+    go true rest = (k.0, rest)
+    go false rest = (h, k)
+
+pub all-in_order : {X : Type 0} (P : X → Type 0) (before : X → X → Bool) (xs : List X) → AllByRecursion P xs → AllByRecursion P (in_order before xs)
+all-in_order P before [] h = tt
+all-in_order P before (x ∷ xs) h = all-put P before x (in_order before xs) h.0 (all-in_order P before xs h.1)
+
+pub order-fits : (w : ℕ) (p : Polynomial) → AreOfWords w p → AreOfWords w (with_order p)
+order-fits w p h = all-in_order (IsOfWords w) product_before (map (λ (m : Monomial). record { coefficient = m.coefficient; factors = in_order comes_before m.factors }) p) (each p h)
+  where
+    each : (q : Polynomial) → AreOfWords w q → AreOfWords w (map (λ (m : Monomial). record { coefficient = m.coefficient; factors = in_order comes_before m.factors }) q)
+    each [] h = tt
+    each (m ∷ q) h = (record { coefficient = h.0.coefficient; factors = all-in_order (IsWord w) comes_before m.factors h.0.factors }, each q h.1)
