@@ -2,7 +2,8 @@
 use Rattle.std.proofs.Common.{◌≡◌, ℕ, zero, suc, ◌+◌, ◌%◌, ◌<◌, ◌≤◌, ◌==◌, Bool, true, false, cond, Option, Some, None, List, [], ◌∷◌, ◌++◌, map, length, get_or, take, drop, refl, ap, sym, ◌∙◌, subst, arith, fold}
 use Rattle.std.specs.Prelude.{unwrap_or, option_map}
 use Rattle.std.specs.List.{AllByRecursion, insert, remove}
-use Rattle.std.proofs.lemmas.Bool.{ne_eqb, cond-false}
+use Rattle.std.proofs.lemmas.Bool.{ne_eqb}
+use Rattle.std.proofs.lemmas.List.{drop_more}
 use Rattle.qv_words.specs.Tree.{Tree}
 use Rattle.qv_words.specs.Equality.{tree_eq}
 use Rattle.qv_words.proofs.Leaves.{both}
@@ -134,3 +135,12 @@ plus-words w n (j ∷ p) m h k = go (same_factors j.factors m.factors) (plus-wor
     go : (b : Bool) → HaveWords w (plus n p m) → HaveWords w (cond b (reduced n (j.coefficient + m.coefficient) j.factors ++ p) (j ∷ plus n p m))
     go true others = both (λ q. AreWords w q.factors) (reduced n (j.coefficient + m.coefficient) j.factors) p (least ((j.coefficient + m.coefficient) % n == 0)) h.1
     go false others = (h.0, others)
+
+-- one product on, and the end
+pub fold-on : (trees : List Tree) (n : ℕ) (sum new : Polynomial) (raw : List Product) (k : ℕ) (x : Product) → k < length raw → x ≡ get_or raw k x → new ≡ plus n sum (monomial_at trees x) → fold (plus n) new (sum_at trees (drop (k + 1) raw)) ≡ fold (plus n) sum (sum_at trees (drop k raw))
+fold-on trees n sum new raw k x low at is =
+    ap (λ (s : Polynomial). fold (plus n) s (sum_at trees (drop (k + 1) raw))) is
+    ∙ sym (ap (λ (ps : List Product). fold (plus n) sum (sum_at trees ps)) (drop_more raw k x low ∙ ap (λ (z : Product). z ∷ drop (k + 1) raw) (sym at)))
+
+pub same-on : (trees : List Tree) (a left : List ℕ) (k x : ℕ) → k < length a → x ≡ get_or a k x → same_factors (map (tree_at trees) (x ∷ drop (k + 1) a)) (map (tree_at trees) left) ≡ same_factors (map (tree_at trees) (drop k a)) (map (tree_at trees) left)
+same-on trees a left k x low at = sym (ap (λ (ns : List ℕ). same_factors (map (tree_at trees) ns) (map (tree_at trees) left)) (drop_more a k x low ∙ ap (λ (z : ℕ). z ∷ drop (k + 1) a) (sym at)))

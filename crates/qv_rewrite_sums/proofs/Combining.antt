@@ -2,7 +2,7 @@
 use Rattle.std.proofs.Common.{◌≡◌, ℕ, zero, suc, ◌+◌, ◌-◌, ◌*◌, ◌%◌, ◌^◌, ◌<◌, ◌≤◌, ◌==◌, Bool, true, false, cond, not, ◌&&◌, ◌||◌, Option, Some, None, List, [], ◌∷◌, ◌++◌, map, length, get_or, drop, refl, ap, sym, ◌∙◌, subst, arith, fold}
 use Rattle.std.specs.Prelude.{unwrap_or, option_map, option_and_then, nat_le, nat_lt, find, is_none}
 use Rattle.std.specs.List.{list_any}
-use Rattle.std.proofs.lemmas.List.{map-append, append_assoc, length-map, length-append}
+use Rattle.std.proofs.lemmas.List.{drop_more, map-append, append_assoc, length-map, length-append}
 use Rattle.std.proofs.lemmas.Nat.{mod_below, pow_pos}
 use Rattle.std.proofs.Math.Nat.{mod-mod, add-mod-mod, mod-eq_of_lt}
 use Rattle.qv_words.specs.Tree.{Tree}
@@ -19,17 +19,17 @@ monomial-is trees y c ids p q =
     ∙ ap (λ (l : List ℕ). record { coefficient = c; factors = map (tree_at trees) l }) q
 
 -- one product more of a multiple, and of a sum times a product
-pub multiple-more : (trees : List Tree) (n f : ℕ) (raw sum : List Product) (k : ℕ) (x y : Product) → k < length sum → x ≡ get_or sum k x → y.coefficient ≡ f * x.coefficient % n → y.factors.items ≡ x.factors.items
-    → sum_at trees (raw ++ y ∷ []) ++ modulo n (multiple f (sum_at trees (drop (k + 1) sum))) ≡ sum_at trees raw ++ modulo n (multiple f (sum_at trees (drop k sum)))
-multiple-more trees n f raw sum k x y low at c is =
-    some-step (λ (ps : List Product). modulo n (multiple f (sum_at trees ps))) (sum_at trees raw) (sum_at trees (raw ++ y ∷ [])) true (rest_of n (scaled f (monomial_at trees x))) sum k x low at
-    (map-append (monomial_at trees) raw (y ∷ []) ∙ ap (λ (m : Monomial). sum_at trees raw ++ m ∷ []) (monomial-is trees y (f * x.coefficient % n) x.factors.items c is)) refl
+pub multiple-more : (trees : List Tree) (n f : ℕ) (raw new sum : List Product) (k : ℕ) (x y : Product) → k < length sum → x ≡ get_or sum k x → y.coefficient ≡ f * x.coefficient % n → y.factors.items ≡ x.factors.items → new ≡ raw ++ y ∷ []
+    → sum_at trees new ++ modulo n (multiple f (sum_at trees (drop (k + 1) sum))) ≡ sum_at trees raw ++ modulo n (multiple f (sum_at trees (drop k sum)))
+multiple-more trees n f raw new sum k x y low at c is e =
+    some-step (λ (ps : List Product). modulo n (multiple f (sum_at trees ps))) (sum_at trees raw) (sum_at trees new) true (rest_of n (scaled f (monomial_at trees x))) sum k x low at
+    (ap (sum_at trees) e ∙ map-append (monomial_at trees) raw (y ∷ []) ∙ ap (λ (m : Monomial). sum_at trees raw ++ m ∷ []) (monomial-is trees y (f * x.coefficient % n) x.factors.items c is)) refl
 
-pub times-more : (trees : List Tree) (n : ℕ) (m : Monomial) (raw sum : List Product) (k : ℕ) (x y : Product) → k < length sum → x ≡ get_or sum k x → monomial_at trees y ≡ rest_of n (times m (monomial_at trees x))
-    → sum_at trees (raw ++ y ∷ []) ++ modulo n (map (times m) (sum_at trees (drop (k + 1) sum))) ≡ sum_at trees raw ++ modulo n (map (times m) (sum_at trees (drop k sum)))
-times-more trees n m raw sum k x y low at is =
-    some-step (λ (ps : List Product). modulo n (map (times m) (sum_at trees ps))) (sum_at trees raw) (sum_at trees (raw ++ y ∷ [])) true (rest_of n (times m (monomial_at trees x))) sum k x low at
-    (map-append (monomial_at trees) raw (y ∷ []) ∙ ap (λ (k : Monomial). sum_at trees raw ++ k ∷ []) is) refl
+pub times-more : (trees : List Tree) (n : ℕ) (m : Monomial) (raw new sum : List Product) (k : ℕ) (x y : Product) → k < length sum → x ≡ get_or sum k x → monomial_at trees y ≡ rest_of n (times m (monomial_at trees x)) → new ≡ raw ++ y ∷ []
+    → sum_at trees new ++ modulo n (map (times m) (sum_at trees (drop (k + 1) sum))) ≡ sum_at trees raw ++ modulo n (map (times m) (sum_at trees (drop k sum)))
+times-more trees n m raw new sum k x y low at is e =
+    some-step (λ (ps : List Product). modulo n (map (times m) (sum_at trees ps))) (sum_at trees raw) (sum_at trees new) true (rest_of n (times m (monomial_at trees x))) sum k x low at
+    (ap (sum_at trees) e ∙ map-append (monomial_at trees) raw (y ∷ []) ∙ ap (λ (k : Monomial). sum_at trees raw ++ k ∷ []) is) refl
 
 -- once a sum is the sum
 pub once : (n : ℕ) (p : Polynomial) → modulo n (multiple 1 p) ≡ modulo n p
@@ -105,3 +105,14 @@ found-any {X} {Y} test f (x ∷ xs) = go (test (f x)) (found-any test f xs)
     go : (b : Bool) → is_none (find test (map f xs)) ≡ not (list_any (λ (z : X). test (f z)) xs) → is_none (cond b (Some (f x)) (find test (map f xs))) ≡ not (b || (list_any (λ (z : X). test (f z)) xs))
     go true e = refl
     go false e = e
+
+-- the products with one more
+pub products-more : (trees : List Tree) (n : ℕ) (raw new a b : List Product) (k : ℕ) (x : Product) → k < length a → x ≡ get_or a k x → sum_at trees new ≡ sum_at trees raw ++ modulo n (map (times (monomial_at trees x)) (sum_at trees b))
+    → sum_at trees new ++ modulo n (products (sum_at trees (drop (k + 1) a)) (sum_at trees b)) ≡ sum_at trees raw ++ modulo n (products (sum_at trees (drop k a)) (sum_at trees b))
+products-more trees n raw new a b k x low at e =
+    let first : Polynomial = modulo n (map (times (monomial_at trees x)) (sum_at trees b)) in
+    let rest : Polynomial = modulo n (products (sum_at trees (drop (k + 1) a)) (sum_at trees b)) in
+    ap (λ (l : Polynomial). l ++ rest) e ∙ append_assoc (sum_at trees raw) first rest
+    ∙ ap (λ (l : Polynomial). sum_at trees raw ++ l)
+    (sym (modulo-append n (map (times (monomial_at trees x)) (sum_at trees b)) (products (sum_at trees (drop (k + 1) a)) (sum_at trees b)))
+    ∙ sym (ap (λ (ps : List Product). modulo n (products (sum_at trees ps) (sum_at trees b))) (drop_more a k x low ∙ ap (λ (z : Product). z ∷ drop (k + 1) a) (sym at))))

@@ -1,5 +1,6 @@
 -- Words among the terms of a store, and sums whose factors are words.
 use Rattle.std.proofs.Common.{◌≡◌, ℕ, zero, suc, ◌+◌, ◌<◌, ◌≤◌, ◌==◌, ◌⊎◌, inl, inr, Bool as Truth, true, false, cond, Option, Some, None, List, [], ◌∷◌, ◌++◌, map, length, get_or, take, drop, refl, ap, sym, ◌∙◌, subst, arith}
+use Rattle.std.specs.Prelude.{Result, Ok, Err, OnOk}
 use Rattle.std.specs.List.{AllByRecursion}
 use Rattle.std.proofs.lemmas.Bool.{cases_lt}
 use Rattle.std.proofs.lemmas.List.{drop_more, get_or_past}
@@ -63,7 +64,7 @@ same-number trees w m n shared h k = go (tree_eq (tree_at trees n) (tree_at tree
         sym is ∙ ap (λ (x : ℕ). tree_eq (tree_at trees n) (tree_at trees x)) same ∙ tree_eq-refl (tree_at trees n)
 
 -- sums of words stand below the number of terms
-words-factors_below : (trees : List Tree) (w : ℕ) (ids : List ℕ) → AreWords w (map (tree_at trees) ids) → AllByRecursion (λ id. id < length trees) ids
+pub words-factors_below : (trees : List Tree) (w : ℕ) (ids : List ℕ) → AreWords w (map (tree_at trees) ids) → AllByRecursion (λ id. id < length trees) ids
 words-factors_below trees w [] h = tt
 words-factors_below trees w (n ∷ ids) h = (word-below trees w n h.0, words-factors_below trees w ids h.1)
 
@@ -76,16 +77,28 @@ fit-words w [] h = tt
 fit-words w (m ∷ p) h = (h.0.factors, fit-words w p h.1)
 
 -- more terms leave sums as they are
-grown-ids : (old new : List Tree) (ids : List ℕ) → Grows old new → AllByRecursion (λ id. id < length old) ids → map (tree_at new) ids ≡ map (tree_at old) ids
+pub grown-ids : (old new : List Tree) (ids : List ℕ) → Grows old new → AllByRecursion (λ id. id < length old) ids → map (tree_at new) ids ≡ map (tree_at old) ids
 grown-ids old new [] grows h = refl
 grown-ids old new (n ∷ ids) grows h =
     let first : tree_at new n ≡ tree_at old n = grown-tree old new grows n h.0 in
     let rest : map (tree_at new) ids ≡ map (tree_at old) ids = grown-ids old new ids grows h.1 in
     cc
 
+pub grown-monomial : (old new : List Tree) (m : Product) → Grows old new → AllByRecursion (λ id. id < length old) m.factors.items → monomial_at new m ≡ monomial_at old m
+grown-monomial old new m grows h = ap (λ (ts : List Tree). record { coefficient = m.coefficient; factors = ts }) (grown-ids old new m.factors.items grows h)
+
 pub grown-sum : (old new : List Tree) (p : List Product) → Grows old new → AreBelow (length old) p → sum_at new p ≡ sum_at old p
 grown-sum old new [] grows h = refl
 grown-sum old new (m ∷ p) grows h =
-    let first : monomial_at new m ≡ monomial_at old m = ap (λ (ts : List Tree). record { coefficient = m.coefficient; factors = ts }) (grown-ids old new m.factors.items grows h.0) in
+    let first : monomial_at new m ≡ monomial_at old m = grown-monomial old new m grows h.0 in
     let rest : sum_at new p ≡ sum_at old p = grown-sum old new p grows h.1 in
     cc
+
+-- the first product that is left, and the others
+pub words-left : (trees : List Tree) (w : ℕ) (p : List Product) (k : ℕ) (x : Product) → HaveWords w (sum_at trees (drop k p)) → k < length p → x ≡ get_or p k x → AreWords w (map (tree_at trees) x.factors.items) × HaveWords w (sum_at trees (drop (k + 1) p))
+words-left trees w p k x h low at = subst (λ (ps : List Product). HaveWords w (sum_at trees ps)) (drop_more p k x low ∙ ap (λ (z : Product). z ∷ drop (k + 1) p) (sym at)) h
+
+-- what follows where a call ends well
+pub on-ok : {A E : Type 0} (r : Result A E) {P Q : Type 0} → (P → Q) → OnOk r P → OnOk r Q
+on-ok (Ok x) go h = go h
+on-ok (Err e) go h = h

@@ -4,4 +4,7 @@ pub mod Adding
 pub mod Combining
 pub mod Ordering
 pub mod Fitting
+pub mod Building
 pub mod Summing
+pub mod Rebuilding
+pub mod Zero

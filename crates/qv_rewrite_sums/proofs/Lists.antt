@@ -2,7 +2,7 @@
 use Rattle.std.proofs.Common.{◌≡◌, ℕ, zero, suc, ◌+◌, ◌<◌, ◌≤◌, Bool, true, false, cond, not, Option, Some, None, List, [], ◌∷◌, ◌++◌, map, length, get_or, take, drop, refl, ap, sym, ◌∙◌, subst, arith}
 use Rattle.std.specs.Prelude.{unwrap_or, option_map}
 use Rattle.std.specs.List.{AllByRecursion, insert}
-use Rattle.std.proofs.lemmas.List.{drop_more, map-append, append_assoc, append-nil}
+use Rattle.std.proofs.lemmas.List.{drop_more, drop_all, map-append, append_assoc, append-nil}
 use Rattle.qv_words.specs.Sums.{put_in}
 use Rattle.qv_rewrite_sums.specs.Held.{first_place, place_or_end}
 
@@ -76,3 +76,12 @@ put-at_place {X} {Y} before g x (y ∷ ys) = go (before (g y) (g x)) (put-at_pla
     go : (b : Bool) → map g (insert ys (place_or_end test ys) x) ≡ put_in before (g x) (map g ys) → map g (insert (y ∷ ys) (unwrap_or (cond (not b) (Some 0) (option_map suc (first_place test ys))) (suc (length ys))) x) ≡ cond b (g y ∷ put_in before (g x) (map g ys)) (g x ∷ g y ∷ map g ys)
     go true h = ap (λ (n : ℕ). map g (insert (y ∷ ys) n x)) (over (first_place test ys)) ∙ ap (λ (l : List Y). g y ∷ l) h
     go false h = refl
+
+-- what is made of a whole list, when nothing is left
+pub all-made : {B X : Type 0} (F : List X → List B) (part whole : List B) (xs : List X) (k : ℕ) → length xs ≤ k → F [] ≡ [] → part ++ F (drop k xs) ≡ whole → part ≡ whole
+all-made {B} F part whole xs k past none h = sym (append-nil part) ∙ ap (λ (l : List B). part ++ l) (sym (ap F (drop_all k xs past) ∙ none)) ∙ h
+
+-- a list mapped that begins with an element or doesn't
+pub map-some : {A B : Type 0} (f : A → B) (b : Bool) (x : A) (xs : List A) → map f (cond b (x ∷ xs) xs) ≡ cond b (f x ∷ map f xs) (map f xs)
+map-some f true x xs = refl
+map-some f false x xs = refl

@@ -21,6 +21,9 @@ before-ranked t (Constant j r) = refl
 before-ranked t (Variable k r) = refl
 before-ranked t u = refl
 
+pub ranked : (t u : Tree) (a b c d : ℕ) → a ≡ class_of t → c ≡ number_in t → b ≡ class_of u → d ≡ number_in u → (nat_lt a b || a == b && nat_lt c d) ≡ comes_before t u
+ranked t u a b c d p q r s = rw (p, q, r, s) (before-ranked t u)
+
 -- one factor on, where neither comes before the other
 pub factors-on : (trees : List Tree) (a b : List ℕ) (k x y : ℕ) → k < length a → k < length b → x ≡ get_or a k x → y ≡ get_or b k y → comes_before (tree_at trees x) (tree_at trees y) ≡ false → comes_before (tree_at trees y) (tree_at trees x) ≡ false
     → factors_before (map (tree_at trees) (drop (k + 1) a)) (map (tree_at trees) (drop (k + 1) b)) ≡ factors_before (map (tree_at trees) (drop k a)) (map (tree_at trees) (drop k b))
@@ -59,3 +62,33 @@ order-fits w p h = all-in_order (IsOfWords w) product_before (map (λ (m : Monom
     each : (q : Polynomial) → AreOfWords w q → AreOfWords w (map (λ (m : Monomial). record { coefficient = m.coefficient; factors = in_order comes_before m.factors }) q)
     each [] h = tt
     each (m ∷ q) h = (record { coefficient = h.0.coefficient; factors = all-in_order (IsWord w) comes_before m.factors h.0.factors }, each q h.1)
+
+-- one factor more in order, and one monomial
+pub factor-more : (trees : List Tree) (factors ordered new : List ℕ) (left : ℕ) → left < length factors → map (tree_at trees) ordered ≡ in_order comes_before (map (tree_at trees) (drop (left + 1) factors))
+    → (x : ℕ) → x ≡ get_or factors left x → new ≡ insert ordered (place_or_end (λ other. not (comes_before (tree_at trees other) (tree_at trees x))) ordered) x
+    → map (tree_at trees) new ≡ in_order comes_before (map (tree_at trees) (drop left factors))
+factor-more trees factors ordered new left low so x at is =
+    ap (map (tree_at trees)) is
+    ∙ put-at_place comes_before (tree_at trees) x ordered
+    ∙ ap (put_in comes_before (tree_at trees x)) so
+    ∙ sym (ap (λ (ns : List ℕ). in_order comes_before (map (tree_at trees) ns)) (drop_more factors left x low ∙ ap (λ (z : ℕ). z ∷ drop (left + 1) factors) (sym at)))
+
+pub product-more : (trees : List Tree) (sum ordered new : List Product) (left : ℕ) → left < length sum → sum_at trees ordered ≡ with_order (sum_at trees (drop (left + 1) sum))
+    → (x y : Product) → x ≡ get_or sum left x → y.coefficient ≡ x.coefficient → map (tree_at trees) y.factors.items ≡ in_order comes_before (map (tree_at trees) x.factors.items)
+    → new ≡ insert ordered (place_or_end (λ other. not (product_before (monomial_at trees other) (monomial_at trees y))) ordered) y → sum_at trees new ≡ with_order (sum_at trees (drop left sum))
+product-more trees sum ordered new left low so x y at c f is =
+    let own : monomial_at trees y ≡ record { coefficient = x.coefficient; factors = in_order comes_before (map (tree_at trees) x.factors.items) } =
+    ap (λ (k : ℕ). record { coefficient = k; factors = map (tree_at trees) y.factors.items }) c
+    ∙ ap (λ (ts : List Tree). record { coefficient = x.coefficient; factors = ts }) f in
+    ap (sum_at trees) is
+    ∙ put-at_place product_before (monomial_at trees) y ordered
+    ∙ ap (put_in product_before (monomial_at trees y)) so
+    ∙ ap (λ (m : Monomial). put_in product_before m (with_order (sum_at trees (drop (left + 1) sum)))) own
+    ∙ sym (ap (λ (ps : List Product). with_order (sum_at trees ps)) (drop_more sum left x low ∙ ap (λ (z : Product). z ∷ drop (left + 1) sum) (sym at)))
+
+-- what is put in has its elements from the list and the new one
+pub inserted : {X : Type 0} (P : X → Type 0) (xs : List X) (k : ℕ) (x : X) → AllByRecursion P xs → P x → AllByRecursion P (insert xs k x)
+inserted P [] zero x h k = (k, tt)
+inserted P [] (suc n) x h k = (k, tt)
+inserted P (y ∷ xs) zero x h k = (k, h)
+inserted P (y ∷ xs) (suc n) x h k = (h.0, inserted P xs n x h.1 k)

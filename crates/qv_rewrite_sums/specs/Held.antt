@@ -7,13 +7,15 @@ use Rattle.qv_words.specs.declared.sort.Sort.{Sort}
 use Rattle.qv_words.specs.declared.sort.Sort.TheVariants.{Bool as BoolSort, Bits}
 use Rattle.qv_words.specs.Sort.{width_of}
 use Rattle.qv_words.specs.declared.op.Op.{Op}
+use Rattle.qv_words.specs.declared.op.Op.TheVariants.{Equal}
 use Rattle.qv_words.specs.Tree.{Tree, Trees, Constant, Variable, Apply, tree_sort}
 use Rattle.qv_words.specs.Sorted.{IsSorted}
-use Rattle.qv_words.specs.Sums.{Monomial, Polynomial, atom, reduced, same_factors, factors_before, is_subtracted, combined, collected, rebuilt, polynomial, polynomials}
+use Rattle.qv_words.specs.Sums.{Monomial, Polynomial, atom, reduced, same_factors, factors_before, is_subtracted, combined, collected, polynomial}
 use Rattle.qv_store.specs.Nodes.{tree_at, trees_at}
 use Rattle.qv_store.specs.Stores.{StandsAt}
 use Rattle.qv_store.specs.Walks.{IsWalk, IsEarlier}
 use Rattle.qv_rewrite_sums.specs.declared.product.Product.{Product}
+use Rattle.qv_rewrite_sums.specs.declared.summing.Sides.{Sides}
 
 -- the monomial of a product, and the sum of products
 abbrev pub monomial_at : List Tree → Product → Monomial
@@ -141,7 +143,8 @@ pub record IsNext (trees : List Tree) (ids : List ℕ) (sums : List (List Produc
   pub at : slice_get ids (length sums) ≡ Some n
   pub found : AreSums trees (tree_at trees) ids sums
 
--- what an application is rebuilt to stands at this number, and has its sort
-pub record IsRebuilt (trees : List Tree) (made : ℕ) (o : Op) (ts : Trees) : Type 0 where
-  pub stands : StandsAt trees made (rebuilt o ts (polynomials ts))
-  pub sort : tree_sort (rebuilt o ts (polynomials ts)) ≡ tree_sort (Apply o ts)
+-- the sides of an equation of words
+pub record AreSidesOf (trees : List Tree) (o : Op) (kids : List ℕ) (sides : Sides) : Type 0 where
+  pub equation : o ≡ Equal
+  pub kids_are : kids ≡ sides.a ∷ sides.b ∷ []
+  pub word : IsWord sides.width (tree_at trees sides.a)

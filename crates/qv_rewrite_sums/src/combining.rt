@@ -1,6 +1,6 @@
 //! The sums of applications, before like products are put together.
 
-ghost use Rattle.std.specs.Prelude.{◌≡◌, ◌^◌, ◌≤◌, ◌<◌, ◌++◌, ◌∷◌, [], ◌&&◌, List, IfOk, OnOk};
+ghost use Rattle.std.specs.Prelude.{◌≡◌, ◌*◌, ◌^◌, ◌≤◌, ◌<◌, ◌++◌, ◌∷◌, [], ◌&&◌, List, IfOk, OnOk};
 ghost use Rattle.std.specs.Prelude.{length, map, nat_le, nat_lt, is_none, find, option_map};
 ghost use Rattle.std.specs.Prelude.{Some, option_and_then};
 ghost use Rattle.qv_words.specs.Tree.{Tree};
@@ -96,7 +96,8 @@ fn complement(alloc: Global, width: u8, a: &[Product]) -> Result<Vec<Product>, N
         ≡ modulo (2 ^ width) (opposite width (sum_at trees a.now ++ constant 1 ∷ []))) }
 {
     let mut raw = opposite(alloc, width, a)?;
-    raw.push(product_of(alloc, ones(width), &[])?)?;
+    let last = product_of(alloc, ones(width), &[])?;
+    raw.push(last)?;
     Ok(raw)
 }
 
@@ -173,14 +174,37 @@ fn short_products(
         option_map (λ raw. sum_at trees raw.items) made ≡ option_map (modulo (2 ^ width))
         (short_raw (Some (products (sum_at trees a.now) (sum_at trees b.now))))) }
 {
-    if a.len().saturating_mul(b.len()) > MOST_RAW {
+    if are_many(a.len(), b.len()) {
         return Ok(None);
     }
+    let raw = products(alloc, width, a, b)?;
+    Ok(unless_long(raw))
+}
+
+// Whether so many and so many products make too many.
+fn are_many(a: usize, b: usize) -> bool
+    ensures { result ≡ nat_lt 48 (a * b) }
+{
+    a.saturating_mul(b) > MOST_RAW
+}
+
+// The products of two sums.
+fn products(
+    alloc: Global,
+    width: u8,
+    a: &[Product],
+    b: &[Product],
+) -> Result<Vec<Product>, NoMemory>
+    requires low { 1 ≤ width }
+    requires high { width ≤ 128 }
+    ensures { (trees : List Tree) → IfOk result (λ raw. sum_at trees raw.items
+        ≡ modulo (2 ^ width) (products (sum_at trees a.now) (sum_at trees b.now))) }
+{
     let mut raw = Vec::new(alloc);
-    'products: for product in a {
-        push_times(alloc, &mut raw, width, product, b)?;
+    'products: for one in a {
+        push_times(alloc, &mut raw, width, one, b)?;
     }
-    Ok(Some(raw))
+    Ok(raw)
 }
 
 // A sum multiplied by a number, behind other products.
@@ -199,7 +223,8 @@ fn push_multiple(
 {
     'products: for one in sum {
         let coefficient = product(width, factor, one.coefficient);
-        raw.push(product_of(alloc, coefficient, one.factors.as_slice())?)?;
+        let next = product_of(alloc, coefficient, one.factors.as_slice())?;
+        raw.push(next)?;
     }
     Ok(())
 }
@@ -219,7 +244,8 @@ fn push_times(
         ++ modulo (2 ^ width) (map (times (monomial_at trees factor.now)) (sum_at trees sum.now))) }
 {
     'products: for one in sum {
-        raw.push(multiplied(alloc, width, factor, one)?)?;
+        let next = multiplied(alloc, width, factor, one)?;
+        raw.push(next)?;
     }
     Ok(())
 }

@@ -1,6 +1,7 @@
 //! Factors and products in order.
 
-ghost use Rattle.std.specs.Prelude.{◌≡◌, ◌≤◌, ◌<◌, not, IfOk, All, length, map};
+ghost use Rattle.std.specs.Prelude.{◌≡◌, ◌≤◌, ◌<◌, ◌==◌, ◌&&◌, ◌||◌, nat_lt, not, IfOk, All, length};
+ghost use Rattle.std.specs.Prelude.{map};
 ghost use Rattle.qv_words.specs.Sums.{comes_before, factors_before, in_order, with_order};
 ghost use Rattle.qv_store.specs.Nodes.{tree_at};
 ghost use Rattle.qv_rewrite_sums.specs.Held.{monomial_at, sum_at, class_of, number_in};
@@ -115,9 +116,16 @@ fn comes_before(store: &Store, a: Id, b: Id) -> bool
     requires b { b < length store.now }
     ensures { result ≡ comes_before (tree_at store.now a) (tree_at store.now b) }
 {
-    let (a_class, a_number) = rank(store, a);
-    let (b_class, b_number) = rank(store, b);
-    a_class < b_class || a_class == b_class && a_number < b_number
+    let first = rank(store, a);
+    let second = rank(store, b);
+    is_less(first, second)
+}
+
+// Whether a rank is less than another.
+fn is_less(a: (u8, u64), b: (u8, u64)) -> bool
+    ensures { result ≡ (nat_lt a.0 b.0 || a.0 == b.0 && nat_lt a.1 b.1) }
+{
+    a.0 < b.0 || a.0 == b.0 && a.1 < b.1
 }
 
 // The class of a factor, and its number there.
@@ -129,6 +137,9 @@ fn rank(store: &Store, id: Id) -> (u8, u64)
     match store.node(id) {
         Node::Const { index, .. } => (0, *index),
         Node::Var { level, .. } => (1, *level),
-        _ => (2, 0),
+        Node::Lit { .. } => (2, 0),
+        Node::App { .. } => (2, 0),
+        Node::All { .. } => (2, 0),
+        Node::Ex { .. } => (2, 0),
     }
 }

@@ -20,8 +20,8 @@ pub(crate) fn added(alloc: Global, width: u8, sum: &[Product]) -> Result<Vec<Pro
 {
     let mut part = Vec::new(alloc);
     'products: for one in sum {
-        let wanted = !is_shorter_negated(width, one.coefficient);
-        push_if(alloc, &mut part, wanted, one.coefficient, one)?;
+        let less = is_shorter_negated(width, one.coefficient);
+        push_if(alloc, &mut part, !less, one.coefficient, one)?;
     }
     Ok(part)
 }
@@ -39,8 +39,9 @@ pub(crate) fn subtracted(
 {
     let mut part = Vec::new(alloc);
     'products: for one in sum {
-        let wanted = is_shorter_negated(width, one.coefficient);
-        push_if(alloc, &mut part, wanted, negation(width, one.coefficient), one)?;
+        let less = is_shorter_negated(width, one.coefficient);
+        let coefficient = negation(width, one.coefficient);
+        push_if(alloc, &mut part, less, coefficient, one)?;
     }
     Ok(part)
 }
@@ -52,7 +53,8 @@ pub(crate) fn with_factors(alloc: Global, sum: &[Product]) -> Result<Vec<Product
 {
     let mut part = Vec::new(alloc);
     'products: for one in sum {
-        push_if(alloc, &mut part, has_factors(one), one.coefficient, one)?;
+        let wanted = has_factors(one);
+        push_if(alloc, &mut part, wanted, one.coefficient, one)?;
     }
     Ok(part)
 }
@@ -64,7 +66,8 @@ pub(crate) fn without_factors(alloc: Global, sum: &[Product]) -> Result<Vec<Prod
 {
     let mut part = Vec::new(alloc);
     'products: for one in sum {
-        push_if(alloc, &mut part, !has_factors(one), one.coefficient, one)?;
+        let unwanted = has_factors(one);
+        push_if(alloc, &mut part, !unwanted, one.coefficient, one)?;
     }
     Ok(part)
 }
@@ -89,7 +92,8 @@ fn push_if(
         (monomial_at trees one.now) ∷ [] else [])) }
 {
     if wanted {
-        part.push(product_of(alloc, coefficient, one.factors.as_slice())?)?;
+        let next = product_of(alloc, coefficient, one.factors.as_slice())?;
+        part.push(next)?;
     }
     Ok(())
 }

@@ -41,7 +41,8 @@ pub(crate) fn atom(alloc: Global, id: Id) -> Result<Vec<Product>, NoMemory>
     ensures below { (n : ℕ) → id < n → IfOk result (λ sum. AreBelow n sum.items) }
 {
     let mut sum = Vec::new(alloc);
-    sum.push(product_of(alloc, 1, &[id])?)?;
+    let own = product_of(alloc, 1, &[id])?;
+    sum.push(own)?;
     Ok(sum)
 }
 
@@ -61,7 +62,8 @@ pub(crate) fn push_reduced(
 {
     let rest = low_bits(width, coefficient);
     if rest != 0 {
-        sum.push(product_of(alloc, rest, factors)?)?;
+        let next = product_of(alloc, rest, factors)?;
+        sum.push(next)?;
     }
     Ok(())
 }

@@ -1,17 +1,19 @@
 //! Each term of a walk as a sum, and the term that the last one becomes.
 
-ghost use Rattle.std.specs.Prelude.{◌≡◌, ◌^◌, ◌≤◌, ◌<◌, ◌∷◌, [], List, All, IfOk};
-ghost use Rattle.std.specs.Prelude.{length, map, option_map};
+ghost use Rattle.std.specs.Prelude.{◌≡◌, ◌^◌, ◌≤◌, ◌<◌, ◌∷◌, [], List, All, IfOk, IfSome, IfNone};
+ghost use Rattle.std.specs.Prelude.{length, option_map};
+ghost use Rattle.std.specs.List.{AllZip};
 ghost use Rattle.qv_words.specs.declared.op.Op.TheVariants.{Equal};
 ghost use Rattle.qv_words.specs.Word.{word_sort, word_value};
-ghost use Rattle.qv_words.specs.Tree.{Tree, Apply, Literal, tree_sort, tree_sorts};
-ghost use Rattle.qv_words.specs.Sums.{polynomials, combined, bits_in, terms_of, summed};
+ghost use Rattle.qv_words.specs.Tree.{Tree, Apply, Literal};
+ghost use Rattle.qv_words.specs.Sums.{Polynomial, polynomials, combined, bits_in, terms_of};
+ghost use Rattle.qv_words.specs.Sums.{rebuilt, summed};
 ghost use Rattle.qv_store.specs.Nodes.{tree_at, trees_at};
-ghost use Rattle.qv_store.specs.Stores.{Grows, StandsAt};
+ghost use Rattle.qv_store.specs.Stores.{AreShared, Grows, StandsAt};
 ghost use Rattle.qv_store.specs.Walks.{IsWalk, IsEarlier};
 ghost use Rattle.qv_rewrite_sums.specs.Held.{sum_at, modulo, short_raw, short_sum, sums_in};
 ghost use Rattle.qv_rewrite_sums.specs.Held.{IsWord, IsSumOf, AreSums, IsNext, IsApplication};
-ghost use Rattle.qv_rewrite_sums.specs.Held.{IsRebuilt};
+ghost use Rattle.qv_rewrite_sums.specs.Held.{AreSidesOf};
 
 use crate::adding::collected;
 use crate::building::word_term;
@@ -111,6 +113,7 @@ fn application_sum(
     ensures sum { IfOk result (λ sum. IsSumOf store.new (tree_at store.old id) sum.items) }
     ensures grows { Grows store.old store.new }
 {
+    let _terms = store.len();
     let width = store.sort(id).width();
     if let Some(sum) = short_sum(alloc, store, walk, sums, width, op, kids)? {
         return Ok(sum);
@@ -133,6 +136,7 @@ fn short_sum(
     requires high { width ≤ 128 }
     requires application { IsApplication store.now walk.now (sums_in sums.now) op
         kids.now }
+    requires shared { AreShared store.now }
     requires width { bits_in (Apply op (trees_at store.now kids.now)) ≡ width }
     ensures { IfOk result (λ made. option_map (λ sum. sum_at store.now sum.items) made
         ≡ short_sum op width (polynomials (trees_at store.now kids.now))) }
@@ -200,18 +204,49 @@ fn rebuilt(
 ) -> Result<Id, NoMemory>
     requires application { IsApplication store.old walk.now (sums_in sums.now) op
         kids.now }
-    ensures id { IfOk result (λ made. IsRebuilt store.new made op (trees_at store.old kids.now)) }
+    ensures id { IfOk result (λ made. StandsAt store.new made
+        (rebuilt op (trees_at store.old kids.now) (polynomials (trees_at store.old kids.now)))) }
     ensures grows { Grows store.old store.new }
 {
-    if let [a, b] = kids {
-        if let Op::Equal = op {
-            if let Sort::Bits(width) = store.sort(*a) {
-                return equation(alloc, store, walk, sums, width, *a, *b);
-            }
+    match word_sides(store, op, kids) {
+        Some(sides) => equation(alloc, store, walk, sums, sides),
+        None => {
+            let terms = terms_of(alloc, store, walk, sums, kids)?;
+            let _terms = store.len();
+            store.put(Node::App { op, kids: terms })
         }
     }
-    let terms = terms_of(alloc, store, walk, sums, kids)?;
-    store.put(Node::App { op, kids: terms })
+}
+
+// The sides of an equation of words, and their width.
+#[derive(Clone, Copy)]
+struct Sides {
+    width: u8,
+    a: Id,
+    b: Id,
+}
+
+fn word_sides(store: &Store, op: Op, kids: &[Id]) -> Option<Sides>
+    requires kids { All (λ kid. kid < length store.now) kids.now }
+    ensures some { IfSome result (AreSidesOf store.now op kids.now) }
+    ensures none { IfNone result ((ps : List Polynomial) → length ps ≡ length kids.now
+        → rebuilt op (trees_at store.now kids.now) ps
+        ≡ Apply op (terms_of (trees_at store.now kids.now) ps)) }
+{
+    match op {
+        Op::Equal => match kids {
+            [a, b] => match store.sort(*a) {
+                Sort::Bits(width) => Some(Sides {
+                    width,
+                    a: *a,
+                    b: *b,
+                }),
+                Sort::Bool => None,
+            },
+            _ => None,
+        },
+        _ => None,
+    }
 }
 
 // The terms of the sums of these terms.
@@ -225,11 +260,8 @@ fn terms_of(
     requires found { AreSums store.old (tree_at store.old) walk.now
         (sums_in sums.now) }
     requires kids { All (IsEarlier walk.now (length sums.now)) kids.now }
-    ensures terms { IfOk result (λ terms. trees_at store.new terms.items
-        ≡ terms_of (trees_at store.old kids.now) (polynomials (trees_at store.old kids.now))) }
-    ensures sorts { IfOk result (λ terms. tree_sorts (trees_at store.new terms.items)
-        ≡ tree_sorts (trees_at store.old kids.now)) }
-    ensures below { IfOk result (λ terms. All (λ id. id < length store.new) terms.items) }
+    ensures terms { IfOk result (λ terms. AllZip (λ kid term. StandsAt store.new term
+        (summed (tree_at store.old kid))) kids.now terms.items) }
     ensures grows { Grows store.old store.new }
 {
     let mut terms = SmallVec::new(alloc);
@@ -251,8 +283,6 @@ fn term_of(
     requires id { id < length store.old }
     requires sum { IsSumOf store.old (tree_at store.old id) sum.now }
     ensures id { IfOk result (λ made. StandsAt store.new made (summed (tree_at store.old id))) }
-    ensures sort { IfOk result (λ made. tree_sort (summed (tree_at store.old id))
-        ≡ tree_sort (tree_at store.old id)) }
     ensures grows { Grows store.old store.new }
 {
     match store.sort(id) {
@@ -267,20 +297,20 @@ fn equation(
     store: &mut Store,
     walk: &Walk,
     sums: &[Vec<Product>],
-    width: u8,
-    a: Id,
-    b: Id,
+    sides: Sides,
 ) -> Result<Id, NoMemory>
     requires application { IsApplication store.old walk.now (sums_in sums.now) Equal
-        (a ∷ b ∷ []) }
-    requires word { IsWord width (tree_at store.old a) }
-    ensures id { IfOk result (λ made. IsRebuilt store.new made Equal
-        (trees_at store.old (a ∷ b ∷ []))) }
+        (sides.a ∷ sides.b ∷ []) }
+    requires word { IsWord sides.width (tree_at store.old sides.a) }
+    ensures id { IfOk result (λ made. StandsAt store.new made (rebuilt Equal
+        (trees_at store.old (sides.a ∷ sides.b ∷ []))
+        (polynomials (trees_at store.old (sides.a ∷ sides.b ∷ []))))) }
     ensures grows { Grows store.old store.new }
 {
-    let first = sum_of(store, walk, sums, a);
-    let second = sum_of(store, walk, sums, b);
-    let raw = difference(alloc, width, first, second)?;
-    let sum = collected(alloc, store, width, &raw)?;
-    is_zero(alloc, store, width, &sum)
+    let _terms = store.len();
+    let first = sum_of(store, walk, sums, sides.a);
+    let second = sum_of(store, walk, sums, sides.b);
+    let raw = difference(alloc, sides.width, first, second)?;
+    let sum = collected(alloc, store, sides.width, &raw)?;
+    is_zero(alloc, store, sides.width, &sum)
 }
