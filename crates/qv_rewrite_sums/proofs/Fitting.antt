@@ -209,7 +209,7 @@ FitEach (Cons t ts) (p ∷ ps) = ((s : Sort) → tree_sort t ≡ Some s → IsSu
 abbrev pub RawFits : Tree → Polynomial → Type 0
 RawFits t raw = (w : ℕ) × IsWord w t × HaveWords w raw
 
-bits-are : (t : Tree) (s : Sort) → tree_sort t ≡ Some s → bits_in t ≡ width_of s
+pub bits-are : (t : Tree) (s : Sort) → tree_sort t ≡ Some s → bits_in t ≡ width_of s
 bits-are t s is = ap (λ (q : Option Sort). width_of (unwrap_or q Bool)) is
 
 one-word : (o : Op) (a : Tree) → ((ss : List Sort) → result_sort o ss ≡ option_map Bits (one_width ss)) → IsSorted (unary o a) → (w : ℕ) × IsWord w a × IsWord w (unary o a)

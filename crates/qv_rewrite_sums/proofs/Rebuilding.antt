@@ -1,24 +1,25 @@
 -- Applications as sums, and rebuilt over the terms of their arguments' sums.
-use Rattle.std.proofs.Common.{◌≡◌, ℕ, zero, suc, ◌+◌, ◌^◌, ◌<◌, ◌≤◌, Bool as Truth, true, false, cond, ◌&&◌, Option, Some, None, List, [], ◌∷◌, ◌++◌, map, length, take, refl, ap, sym, ◌∙◌, subst, arith}
+use Rattle.std.proofs.Common.{◌≡◌, ℕ, zero, suc, ◌+◌, ◌^◌, ◌<◌, ◌≤◌, Bool as Truth, true, false, cond, ◌&&◌, Option, Some, None, List, [], ◌∷◌, ◌++◌, map, length, get_or, take, refl, ap, sym, ◌∙◌, subst, arith}
 use Rattle.std.specs.Prelude.{unwrap_or, option_map, option_and_then, nat_le, nat_lt, find, is_none}
 use Rattle.std.specs.List.{AllByRecursion, AllZip}
+use Rattle.std.proofs.lemmas.List.{take_more}
 use Rattle.qv_words.specs.declared.sort.Sort.{Sort}
 use Rattle.qv_words.specs.declared.sort.Sort.TheVariants.{Bool, Bits}
 use Rattle.qv_words.specs.declared.op.Op.{Op}
 use Rattle.qv_words.specs.declared.op.Op.TheVariants.{Equal}
 use Rattle.qv_words.specs.Sort.{width_of}
-use Rattle.qv_words.specs.Tree.{Tree, Trees, Apply, Nil, Cons, tree_sort}
+use Rattle.qv_words.specs.Tree.{Tree, Trees, Literal, Apply, Nil, Cons, tree_sort}
 use Rattle.qv_words.specs.Sorted.{IsSorted, AreSortedBelow, no_levels}
 use Rattle.qv_words.proofs.Elements.{zip-more, zip-append}
-use Rattle.qv_words.specs.Sums.{Monomial, Polynomial, atom, collected, combined, sum_or_atom, term_of, terms_of, rebuilt, applied, polynomial, polynomials, summed, bits_in, equation, word_width, is_zero, opposite}
+use Rattle.qv_words.specs.Sums.{Monomial, Polynomial, constant, atom, collected, combined, sum_or_atom, term_of, terms_of, rebuilt, applied, polynomial, polynomials, summed, bits_in, equation, word_width, is_zero, opposite}
 use Rattle.qv_store.specs.Nodes.{tree_at, trees_at}
 use Rattle.qv_store.specs.Stores.{AreShared, Grows, StandsAt}
 use Rattle.qv_store.proofs.Replacement.{grown-tree, grown-within}
 use Rattle.qv_rewrite_sums.specs.declared.product.Product.{Product}
 use Rattle.qv_rewrite_sums.specs.Held.{sum_at, modulo, short_raw, kept, short_sum, IsWord, HaveWords, IsSumOf, AreBelow}
 use Rattle.qv_rewrite_sums.proofs.Held.{words-below, fit-words}
-use Rattle.qv_rewrite_sums.proofs.Combining.{kept-or_atom}
-use Rattle.qv_rewrite_sums.proofs.Fitting.{FitEach, RawFits, combined-fits, sum-fits, sums-fit}
+use Rattle.qv_rewrite_sums.proofs.Combining.{kept-or_atom, collected-rest}
+use Rattle.qv_rewrite_sums.proofs.Fitting.{FitEach, RawFits, combined-fits, collected-fits, sum-fits, sums-fit}
 
 -- the terms of sums, one by one
 abbrev pub IsTermOf : List Tree → List Tree → ℕ → ℕ → Type 0
@@ -136,3 +137,59 @@ single trees (m ∷ []) t e = go m.factors.items refl (heads e)
         record { product = m; factor = n; products_are = refl; factors_are = is; tree = cc }
     go (n ∷ k ∷ ns) is x = let more : map (tree_at trees) (n ∷ k ∷ ns) ≡ t ∷ [] = subst (λ (js : List ℕ). map (tree_at trees) js ≡ t ∷ []) is x in absurd (cc)
 single trees (m ∷ k ∷ p) t e = absurd (cc)
+
+-- one term more
+pub zip-terms_more : (old now new : List Tree) (kids terms pushed : List ℕ) (k kid term : ℕ) → Grows now new → AllZip (IsTermOf old now) (take k kids) terms → k < length kids → kid ≡ get_or kids k kid → StandsAt new term (summed (tree_at old kid)) → pushed ≡ terms ++ term ∷ [] → AllZip (IsTermOf old new) (take (k + 1) kids) pushed
+zip-terms_more old now new kids terms pushed k kid term grows h low at own is =
+    let next : take (k + 1) kids ≡ take k kids ++ kid ∷ [] = take_more kids k kid low ∙ ap (λ (n : ℕ). take k kids ++ n ∷ []) (sym at) in
+    let both = zip-append (IsTermOf old new) (take k kids) (kid ∷ []) terms (term ∷ []) (zip-grown old now new (take k kids) terms grows h) (own, tt) in
+    subst (λ (ns : List ℕ). AllZip (IsTermOf old new) ns pushed) (sym next) (subst (λ (ts : List ℕ). AllZip (IsTermOf old new) (take k kids ++ kid ∷ []) ts) (sym is) both)
+
+-- an application whose sum is short is a word
+pub short-word : (o : Op) (ts : Trees) (w : ℕ) (p : Polynomial) → IsSorted (Apply o ts) → bits_in (Apply o ts) ≡ w → short_sum o w (polynomials ts) ≡ Some p → IsWord w (Apply o ts)
+short-word o ts w p sorted bits is = go (short_raw (combined o w (polynomials ts))) refl is
+  where
+    go : (q : Option Polynomial) → short_raw (combined o w (polynomials ts)) ≡ q → kept (option_map (collected w) q) ≡ Some p → IsWord w (Apply o ts)
+    go None e x = absurd (cc)
+    go (Some raw) e x = (raw-words o ts w raw sorted bits e).0
+
+-- the sum of an application in a store: a short one, or the application rebuilt
+pub held-short : (trees : List Tree) (n : ℕ) (o : Op) (ts : Trees) (w : ℕ) (p : List Product) → IsSorted (Apply o ts) → tree_at trees n ≡ Apply o ts → bits_in (Apply o ts) ≡ w → short_sum o w (polynomials ts) ≡ Some (sum_at trees p) → IsSumOf trees (tree_at trees n) p
+held-short trees n o ts w p sorted tree bits is =
+    subst (λ (t : Tree). IsSumOf trees t p) (sym tree) (word-held trees (Apply o ts) w p sorted (short-word o ts w (sum_at trees p) sorted bits is) (short-is_sum o ts w (sum_at trees p) bits is))
+
+pub held-rebuilt : (new : List Tree) (t : Tree) (o : Op) (ts : Trees) (w made : ℕ) (p : List Product) → t ≡ Apply o ts → bits_in (Apply o ts) ≡ w → short_sum o w (polynomials ts) ≡ None → StandsAt new made (rebuilt o ts (polynomials ts)) → sum_at new p ≡ atom (tree_at new made) → AreBelow (length new) p → IsSumOf new t p
+held-rebuilt new t o ts w made p tree bits none s e below =
+    subst (λ (u : Tree). IsSumOf new u p) (sym tree) (record { sum = e ∙ ap atom s.tree ∙ none-is_atom o ts w bits none; below = below })
+
+-- what is kept of a sum
+pub kept-is : (w : ℕ) (q : Option Polynomial) (sum : Polynomial) (b : Truth) → option_map (collected w) q ≡ Some sum → b ≡ (nat_le (length sum) 24 && is_none (find (λ (m : Monomial). nat_lt 4 (length m.factors)) sum)) → kept (option_map (collected w) q) ≡ cond b (Some sum) None
+kept-is w q sum b e f = ap kept e ∙ ap (λ (x : Truth). cond x (Some sum) None) (sym f)
+
+-- a literal's sum
+pub literal-held : (trees : List Tree) (w n : ℕ) (p : List Product) → sum_at trees p ≡ collected w (constant n ∷ []) → IsSumOf trees (Literal (Bits w) n) p
+literal-held trees w n p e = record {
+  sum = e;
+  below = words-below trees w p (subst (HaveWords w) (sym e) (fit-words w (collected w (constant n ∷ [])) (collected-fits w (constant n ∷ []) (tt, tt))));
+}
+
+-- what is kept of a sum that was collected modulo n
+pub kept-whole : (w : ℕ) (q : Option Polynomial) (r s : Polynomial) → Some r ≡ option_map (modulo (2 ^ w)) q → s ≡ collected w r → kept (Some s) ≡ kept (option_map (collected w) q)
+kept-whole w None r s e f = absurd (cc)
+kept-whole w (Some raw) r s e f =
+    let same : r ≡ modulo (2 ^ w) raw = cc in
+    ap (λ (p : Polynomial). kept (Some p)) (f ∙ ap (collected w) same ∙ collected-rest w raw)
+
+pub kept-none : (w : ℕ) (q : Option Polynomial) → None ≡ option_map (modulo (2 ^ w)) q → None ≡ kept (option_map (collected w) q)
+kept-none w None e = refl
+kept-none w (Some raw) e = absurd (cc)
+
+-- the factors of a sum before like monomials are put together
+pub raw-held_words : (o : Op) (ts : Trees) (w : ℕ) (r : Polynomial) → IsSorted (Apply o ts) → bits_in (Apply o ts) ≡ w → Some r ≡ option_map (modulo (2 ^ w)) (short_raw (combined o w (polynomials ts))) → HaveWords w r
+raw-held_words o ts w r sorted bits e = go (short_raw (combined o w (polynomials ts))) refl e
+  where
+    go : (q : Option Polynomial) → short_raw (combined o w (polynomials ts)) ≡ q → Some r ≡ option_map (modulo (2 ^ w)) q → HaveWords w r
+    go None is x = absurd (cc)
+    go (Some raw) is x =
+        let same : r ≡ modulo (2 ^ w) raw = cc in
+        subst (HaveWords w) (sym same) (modulo-words w (2 ^ w) raw (raw-words o ts w raw sorted bits is).1)

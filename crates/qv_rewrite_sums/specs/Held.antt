@@ -132,6 +132,7 @@ short_sum o w ps = kept (option_map (collected w) (short_raw (combined o w ps)))
 
 -- a sorted application of an operator to terms whose sums were found
 pub record IsApplication (trees : List Tree) (ids : List ℕ) (sums : List (List Product)) (o : Op) (kids : List ℕ) : Type 0 where
+  pub walk : IsWalk trees ids
   pub found : AreSums trees (tree_at trees) ids sums
   pub kids_earlier : All (IsEarlier ids (length sums)) kids
   pub kids_below : All (λ kid. kid < length trees) kids

@@ -7,6 +7,7 @@ ghost use Rattle.qv_words.specs.Tree.{Tree};
 ghost use Rattle.qv_words.specs.Sums.{constant, multiple, times, products, opposite, combined};
 ghost use Rattle.qv_words.specs.Sums.{number_of, shifted};
 ghost use Rattle.qv_rewrite_sums.specs.Held.{monomial_at, sum_at, rest_of, modulo, short_raw};
+ghost use Rattle.qv_rewrite_sums.specs.Held.{kept};
 
 use crate::numbers::{ones, product};
 use crate::product::{Product, product_of};
@@ -288,8 +289,16 @@ pub(crate) fn number_of(sum: &[Product]) -> Option<u128>
     }
 }
 
+// A collected sum that is kept.
+pub(crate) fn if_short(sum: Vec<Product>) -> Option<Vec<Product>>
+    ensures { (trees : List Tree) → option_map (λ made. sum_at trees made.items) result
+        ≡ kept (Some (sum_at trees sum.items)) }
+{
+    if is_short(&sum) { Some(sum) } else { None }
+}
+
 // Whether a collected sum is kept.
-pub(crate) fn is_short(sum: &[Product]) -> bool
+fn is_short(sum: &[Product]) -> bool
     ensures { (trees : List Tree) → result ≡ nat_le (length (sum_at trees sum.now)) 24
         && is_none (find (λ m. nat_lt 4 (length m.factors)) (sum_at trees sum.now)) }
 {

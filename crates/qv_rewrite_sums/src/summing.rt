@@ -17,7 +17,7 @@ ghost use Rattle.qv_rewrite_sums.specs.Held.{AreSidesOf};
 
 use crate::adding::collected;
 use crate::building::word_term;
-use crate::combining::{difference, is_short, of_one, of_two};
+use crate::combining::{difference, if_short, of_one, of_two};
 use crate::product::{Product, atom, push_reduced};
 use crate::zero::is_zero;
 use qv_store::{Id, NoMemory, Node, Store, Walk};
@@ -144,7 +144,7 @@ fn short_sum(
     match raw_sum(alloc, store, walk, sums, width, op, kids)? {
         Some(raw) => {
             let sum = collected(alloc, store, width, &raw)?;
-            Ok(if is_short(&sum) { Some(sum) } else { None })
+            Ok(if_short(sum))
         }
         None => Ok(None),
     }
@@ -259,7 +259,9 @@ fn terms_of(
 ) -> Result<SmallVec<Id, 3>, NoMemory>
     requires found { AreSums store.old (tree_at store.old) walk.now
         (sums_in sums.now) }
+    requires walk { IsWalk store.old walk.now }
     requires kids { All (IsEarlier walk.now (length sums.now)) kids.now }
+    requires below { All (λ kid. kid < length store.old) kids.now }
     ensures terms { IfOk result (λ terms. AllZip (λ kid term. StandsAt store.new term
         (summed (tree_at store.old kid))) kids.now terms.items) }
     ensures grows { Grows store.old store.new }

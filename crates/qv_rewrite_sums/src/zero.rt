@@ -109,9 +109,11 @@ fn equation(
 fn is_odd(sum: &[Product]) -> bool
     ensures { (trees : List Tree) → result ≡ is_odd (sum_at trees sum.now) }
 {
-    !sum.iter()
-        .any(|one| !one.factors.is_empty() && one.coefficient % 2 == 1)
-        && total_is_odd(sum)
+    let some = sum
+        .iter()
+        .any(|one| !one.factors.is_empty() && one.coefficient % 2 == 1);
+    let odd = total_is_odd(sum);
+    !some && odd
 }
 
 // Whether the coefficients make an odd number.
