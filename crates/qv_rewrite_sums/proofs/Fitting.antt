@@ -24,8 +24,8 @@ use Rattle.qv_words.proofs.Passing.{one-sorts, two-sorts, some-same}
 use Rattle.qv_words.specs.Sums.{Monomial, Polynomial, constant, atom, has_factors, times, multiple, opposite, products, same_factors, reduced, plus, collected, number_of, shifted, combined, is_short, sum_or_atom, with_order, joined, product_term, sum_term, is_subtracted, added, subtracted, opposite_term, difference_term, term_from, term_of, is_odd, sides_equal, zero_from, is_zero, word_width, equation, bits_in, terms_of, rebuilt, applied, polynomial, polynomials, summed}
 use Rattle.qv_rewrite_sums.specs.Held.{IsWord, AreWords, HaveWords, IsOfWords, AreOfWords, IsSumFor}
 use Rattle.qv_rewrite_sums.proofs.Held.{fit-words}
-use Rattle.qv_rewrite_sums.proofs.Adding.{plus-words}
-use Rattle.qv_rewrite_sums.proofs.Ordering.{order-fits}
+use Rattle.qv_rewrite_sums.proofs.Alike.{plus-words}
+use Rattle.qv_rewrite_sums.proofs.Ordered.{order-fits}
 
 -- the ranks of two words
 pub alike-rank : (w : ℕ) → option_map Bits (cond (w == w) (Some w) None) ≡ Some (Bits w)
@@ -337,7 +337,7 @@ pub with-terms_sort : (o : Op) (ts : Trees) (ps : List Polynomial) → AreSorted
 with-terms_sort o ts ps h r = ap (option_and_then (result_sort o)) (terms-sorts ts ps h r)
 
 -- the two sides of an equation have one sort
-alike-sorts : (b : Tree) (s t x : Sort) → tree_sort b ≡ Some t → result_sort Equal (s ∷ t ∷ []) ≡ Some x → tree_sort b ≡ Some s
+pub alike-sorts : (b : Tree) (s t x : Sort) → tree_sort b ≡ Some t → result_sort Equal (s ∷ t ∷ []) ≡ Some x → tree_sort b ≡ Some s
 alike-sorts b s t x sb rank = go (two_alike (s ∷ t ∷ [])) refl rank
   where
     go : (q : Option Sort) → two_alike (s ∷ t ∷ []) ≡ q → option_map (λ _. Bool) q ≡ Some x → tree_sort b ≡ Some s

@@ -1,5 +1,5 @@
 -- Words among the terms of a store, and sums whose factors are words.
-use Rattle.std.proofs.Common.{◌≡◌, ℕ, zero, suc, ◌+◌, ◌<◌, ◌≤◌, ◌==◌, ◌⊎◌, inl, inr, Bool as Truth, true, false, cond, Option, Some, None, List, [], ◌∷◌, ◌++◌, map, length, get_or, take, drop, refl, ap, sym, ◌∙◌, subst, arith}
+use Rattle.std.proofs.Common.{◌≡◌, ℕ, zero, suc, ◌+◌, ◌^◌, ◌<◌, ◌≤◌, ◌==◌, ◌⊎◌, inl, inr, Bool as Truth, true, false, cond, Option, Some, None, List, [], ◌∷◌, ◌++◌, map, length, get_or, take, drop, refl, ap, sym, ◌∙◌, subst, arith}
 use Rattle.std.specs.Prelude.{Result, Ok, Err, OnOk}
 use Rattle.std.specs.List.{AllByRecursion}
 use Rattle.std.proofs.lemmas.Bool.{cases_lt}
@@ -102,3 +102,8 @@ words-left trees w p k x h low at = subst (λ (ps : List Product). HaveWords w (
 pub on-ok : {A E : Type 0} (r : Result A E) {P Q : Type 0} → (P → Q) → OnOk r P → OnOk r Q
 on-ok (Ok x) go h = go h
 on-ok (Err e) go h = h
+
+-- the coefficients of a sum of words
+pub values-below : (trees : List Tree) (w : ℕ) (p : List Product) → AreOfWords w (sum_at trees p) → AllByRecursion (λ m. m.coefficient < 2 ^ w) p
+values-below trees w [] h = tt
+values-below trees w (m ∷ p) h = (h.0.coefficient, values-below trees w p h.1)

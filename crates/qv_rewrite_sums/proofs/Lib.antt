@@ -1,10 +1,10 @@
 pub mod Lists
 pub mod Held
-pub mod Adding
-pub mod Combining
-pub mod Ordering
+pub mod Alike
+pub mod Combined
+pub mod Ordered
 pub mod Fitting
-pub mod Building
-pub mod Summing
+pub mod Built
+pub mod Found
 pub mod Rebuilding
-pub mod Zero
+pub mod Odd

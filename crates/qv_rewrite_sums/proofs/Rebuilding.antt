@@ -11,6 +11,7 @@ use Rattle.qv_words.specs.Sort.{width_of}
 use Rattle.qv_words.specs.Tree.{Tree, Trees, Literal, Apply, Nil, Cons, tree_sort}
 use Rattle.qv_words.specs.Sorted.{IsSorted, AreSortedBelow, no_levels}
 use Rattle.qv_words.proofs.Elements.{zip-more, zip-append}
+use Rattle.qv_words.proofs.Passing.{two-sorts, some-same}
 use Rattle.qv_words.specs.Sums.{Monomial, Polynomial, constant, atom, collected, combined, sum_or_atom, term_of, terms_of, rebuilt, applied, polynomial, polynomials, summed, bits_in, equation, word_width, is_zero, opposite}
 use Rattle.qv_store.specs.Nodes.{tree_at, trees_at}
 use Rattle.qv_store.specs.Stores.{AreShared, Grows, StandsAt}
@@ -18,8 +19,8 @@ use Rattle.qv_store.proofs.Replacement.{grown-tree, grown-within}
 use Rattle.qv_rewrite_sums.specs.declared.product.Product.{Product}
 use Rattle.qv_rewrite_sums.specs.Held.{sum_at, modulo, short_raw, kept, short_sum, IsWord, HaveWords, IsSumOf, AreBelow}
 use Rattle.qv_rewrite_sums.proofs.Held.{words-below, fit-words}
-use Rattle.qv_rewrite_sums.proofs.Combining.{kept-or_atom, collected-rest}
-use Rattle.qv_rewrite_sums.proofs.Fitting.{FitEach, RawFits, combined-fits, collected-fits, sum-fits, sums-fit}
+use Rattle.qv_rewrite_sums.proofs.Combined.{kept-or_atom, collected-rest}
+use Rattle.qv_rewrite_sums.proofs.Fitting.{FitEach, RawFits, alike-sorts, words-difference, combined-fits, collected-fits, sum-fits, sums-fit}
 
 -- the terms of sums, one by one
 abbrev pub IsTermOf : List Tree → List Tree → ℕ → ℕ → Type 0
@@ -193,3 +194,11 @@ raw-held_words o ts w r sorted bits e = go (short_raw (combined o w (polynomials
     go (Some raw) is x =
         let same : r ≡ modulo (2 ^ w) raw = cc in
         subst (HaveWords w) (sym same) (modulo-words w (2 ^ w) raw (raw-words o ts w raw sorted bits is).1)
+
+-- the difference of the sides of an equation of words
+pub sides-words : (a b : Tree) (w : ℕ) → IsSorted (Apply Equal (Cons a (Cons b Nil))) → IsWord w a → IsWord w b × HaveWords w (polynomial a ++ opposite w (polynomial b))
+sides-words a b w sorted is =
+    let k = two-sorts Equal a b sorted in
+    let same : k.0 ≡ Bits w = some-same k.0 (Bits w) (sym k.3 ∙ is) in
+    let second : IsWord w b = alike-sorts b k.0 k.1 k.2 k.4 k.5 ∙ ap Some same in
+    (second, words-difference w (polynomial a) (polynomial b) (fit-words w (polynomial a) (sum-fits a (Bits w) sorted.0.0 is)) (fit-words w (polynomial b) (sum-fits b (Bits w) sorted.0.1.0 second)))

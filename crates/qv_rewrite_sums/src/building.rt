@@ -10,8 +10,8 @@ ghost use Rattle.qv_words.specs.Inverse.{unary, number};
 ghost use Rattle.qv_words.specs.Sums.{product_term, sum_term, opposite_term, difference_term};
 ghost use Rattle.qv_words.specs.Sums.{added, subtracted, term_of};
 ghost use Rattle.qv_store.specs.Nodes.{tree_at};
-ghost use Rattle.qv_store.specs.Stores.{AreShared, Grows, StandsAt};
-ghost use Rattle.qv_rewrite_sums.specs.Held.{monomial_at, sum_at, AreBelow, IsWord, AreWords};
+ghost use Rattle.qv_store.specs.Stores.{Grows, StandsAt};
+ghost use Rattle.qv_rewrite_sums.specs.Held.{monomial_at, sum_at, IsWord, AreWords};
 ghost use Rattle.qv_rewrite_sums.specs.Held.{IsOfWords, AreOfWords, StandsAs};
 
 use crate::combining::number_of;
@@ -41,11 +41,29 @@ pub(crate) fn word_term(
         Some(value) => put_number(store, width, value),
         None => {
             let ordered = with_order(alloc, store, sum)?;
-            let plus = added(alloc, width, &ordered)?;
-            let minus = subtracted(alloc, width, &ordered)?;
-            difference_term(alloc, store, width, &plus, &minus)
+            ordered_term(alloc, store, width, &ordered)
         }
     }
+}
+
+// What is added in a sum less what is subtracted.
+fn ordered_term(
+    alloc: Global,
+    store: &mut Store,
+    width: u8,
+    ordered: &[Product],
+) -> Result<Id, NoMemory>
+    requires low { 1 ≤ width }
+    requires high { width ≤ 128 }
+    requires fits { AreOfWords width (sum_at store.old ordered.now) }
+    ensures id { IfOk result (λ id. StandsAs store.new (Bits width) id
+        (difference_term width (added width (sum_at store.old ordered.now))
+        (subtracted width (sum_at store.old ordered.now)))) }
+    ensures grows { Grows store.old store.new }
+{
+    let plus = added(alloc, width, ordered)?;
+    let minus = subtracted(alloc, width, ordered)?;
+    difference_term(alloc, store, width, &plus, &minus)
 }
 
 // What is added less what is subtracted.

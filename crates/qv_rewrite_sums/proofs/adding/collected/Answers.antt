@@ -4,7 +4,7 @@ use Rattle.qv_words.specs.Sums.{plus}
 use Rattle.qv_rewrite_sums.specs.declared.product.Product.{Product}
 use Rattle.qv_rewrite_sums.specs.Held.{monomial_at, sum_at, HaveWords}
 use Rattle.qv_rewrite_sums.proofs.Held.{words-left}
-use Rattle.qv_rewrite_sums.proofs.Adding.{plus-words, fold-on}
+use Rattle.qv_rewrite_sums.proofs.Alike.{plus-words, fold-on}
 use Rattle.qv_rewrite_sums.proofs.adding.collected.Goals as goal
 
 pub raw-init : goal.raw-init

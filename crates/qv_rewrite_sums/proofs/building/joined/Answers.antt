@@ -7,7 +7,7 @@ use Rattle.qv_store.specs.Nodes.{tree_at}
 use Rattle.qv_store.proofs.Replacement.{grows-more}
 use Rattle.qv_rewrite_sums.specs.Held.{IsWord, StandsAs}
 use Rattle.qv_rewrite_sums.proofs.Held.{word-below, at-mapped}
-use Rattle.qv_rewrite_sums.proofs.Building.{grows-itself, word-grown, joined-more}
+use Rattle.qv_rewrite_sums.proofs.Built.{grows-itself, word-grown, joined-more}
 use Rattle.qv_rewrite_sums.proofs.building.joined.Goals as goal
 
 pub rest-init : goal.rest-init

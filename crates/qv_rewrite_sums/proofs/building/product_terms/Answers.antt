@@ -6,7 +6,7 @@ use Rattle.qv_store.proofs.Replacement.{grows-more}
 use Rattle.qv_rewrite_sums.specs.declared.product.Product.{Product}
 use Rattle.qv_rewrite_sums.specs.Held.{monomial_at, sum_at, AreWords, IsOfWords}
 use Rattle.qv_rewrite_sums.proofs.Held.{at-mapped}
-use Rattle.qv_rewrite_sums.proofs.Building.{grows-itself, AreTerms, product-fits, terms-more}
+use Rattle.qv_rewrite_sums.proofs.Built.{grows-itself, AreTerms, product-fits, terms-more}
 use Rattle.qv_rewrite_sums.proofs.building.product_terms.Goals as goal
 
 pub products-init : goal.products-init

@@ -3,7 +3,7 @@ use Rattle.qv_store.specs.Nodes.{tree_at}
 use Rattle.qv_store.proofs.Replacement.{if-ok}
 use Rattle.qv_rewrite_sums.proofs.Held.{word-below}
 use Rattle.qv_rewrite_sums.proofs.Fitting.{sort-binary}
-use Rattle.qv_rewrite_sums.proofs.Building.{words-sorted}
+use Rattle.qv_rewrite_sums.proofs.Built.{words-sorted}
 use Rattle.qv_rewrite_sums.proofs.building.put_words.Goals as goal
 
 pub put_two-requires : goal.put_two-requires

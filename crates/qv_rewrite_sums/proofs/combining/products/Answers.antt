@@ -4,7 +4,7 @@ use Rattle.qv_words.specs.Sums.{products}
 use Rattle.qv_rewrite_sums.specs.declared.product.Product.{Product}
 use Rattle.qv_rewrite_sums.specs.Held.{sum_at, modulo}
 use Rattle.qv_rewrite_sums.proofs.Lists.{all-made}
-use Rattle.qv_rewrite_sums.proofs.Combining.{products-more}
+use Rattle.qv_rewrite_sums.proofs.Combined.{products-more}
 use Rattle.qv_rewrite_sums.proofs.combining.products.Goals as goal
 
 pub products-preserved : goal.products-preserved

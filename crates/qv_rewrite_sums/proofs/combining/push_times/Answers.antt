@@ -4,7 +4,7 @@ use Rattle.qv_words.specs.Sums.{times}
 use Rattle.qv_rewrite_sums.specs.declared.product.Product.{Product}
 use Rattle.qv_rewrite_sums.specs.Held.{monomial_at, sum_at, modulo}
 use Rattle.qv_rewrite_sums.proofs.Lists.{all-made}
-use Rattle.qv_rewrite_sums.proofs.Combining.{times-more}
+use Rattle.qv_rewrite_sums.proofs.Combined.{times-more}
 use Rattle.qv_rewrite_sums.proofs.combining.push_times.Goals as goal
 
 pub products-preserved : goal.products-preserved

@@ -1,6 +1,6 @@
 use Rattle.std.proofs.Common.{◌∙◌}
 use Rattle.qv_store.specs.Nodes.{tree_at}
-use Rattle.qv_rewrite_sums.proofs.Ordering.{ranked}
+use Rattle.qv_rewrite_sums.proofs.Ordered.{ranked}
 use Rattle.qv_rewrite_sums.proofs.ordering.comes_before.Goals as goal
 
 pub returns : goal.returns

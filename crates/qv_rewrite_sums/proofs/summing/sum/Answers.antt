@@ -8,7 +8,7 @@ use Rattle.qv_store.proofs.Passes.{contains-earlier, earlier-in}
 use Rattle.qv_store.proofs.Replacement.{grown-tree, grown-within, grows-more, if-ok}
 use Rattle.qv_rewrite_sums.specs.declared.product.Product.{Product}
 use Rattle.qv_rewrite_sums.specs.Held.{sums_in, AreSums}
-use Rattle.qv_rewrite_sums.proofs.Summing.{sums-turned}
+use Rattle.qv_rewrite_sums.proofs.Found.{sums-turned}
 use Rattle.qv_rewrite_sums.proofs.summing.sum.Goals as goal
 
 pub sum_of-found-requires : goal.sum_of-found-requires

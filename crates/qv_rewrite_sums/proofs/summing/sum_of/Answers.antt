@@ -2,7 +2,7 @@ use Rattle.std.proofs.Common.{List, sym, subst}
 use Rattle.qv_store.specs.Nodes.{tree_at}
 use Rattle.qv_rewrite_sums.specs.declared.product.Product.{Product}
 use Rattle.qv_rewrite_sums.specs.Held.{IsSumOf}
-use Rattle.qv_rewrite_sums.proofs.Summing.{sum-found}
+use Rattle.qv_rewrite_sums.proofs.Found.{sum-found}
 use Rattle.qv_rewrite_sums.proofs.summing.sum_of.Goals as goal
 
 pub returns : goal.returns

@@ -2,8 +2,8 @@ use Rattle.std.proofs.Common.{◌≡◌, [], ◌∷◌, ◌++◌, length, ap, sy
 use Rattle.qv_store.specs.Nodes.{tree_at}
 use Rattle.qv_store.proofs.Replacement.{grows-more}
 use Rattle.qv_rewrite_sums.specs.Held.{sums_in, AreSums}
-use Rattle.qv_rewrite_sums.proofs.Building.{grows-itself}
-use Rattle.qv_rewrite_sums.proofs.Summing.{next-low, next-of, sums-more, sums-none}
+use Rattle.qv_rewrite_sums.proofs.Built.{grows-itself}
+use Rattle.qv_rewrite_sums.proofs.Found.{next-low, next-of, sums-more, sums-none}
 use Rattle.qv_rewrite_sums.proofs.summing.sums_of.Goals as goal
 
 pub terms-init : goal.terms-init

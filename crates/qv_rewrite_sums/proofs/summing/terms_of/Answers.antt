@@ -8,8 +8,8 @@ use Rattle.qv_store.specs.Stores.{StandsAt}
 use Rattle.qv_store.specs.Walks.{IsEarlier}
 use Rattle.qv_store.proofs.Replacement.{grown-tree, grown-within, grows-more}
 use Rattle.qv_rewrite_sums.specs.Held.{sums_in}
-use Rattle.qv_rewrite_sums.proofs.Building.{grows-itself}
-use Rattle.qv_rewrite_sums.proofs.Summing.{sums-grown, sums-turned}
+use Rattle.qv_rewrite_sums.proofs.Built.{grows-itself}
+use Rattle.qv_rewrite_sums.proofs.Found.{sums-grown, sums-turned}
 use Rattle.qv_rewrite_sums.proofs.Rebuilding.{IsTermOf, zip-terms_more}
 use Rattle.qv_rewrite_sums.proofs.summing.terms_of.Goals as goal
 

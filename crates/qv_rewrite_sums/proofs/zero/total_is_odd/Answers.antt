@@ -1,7 +1,7 @@
 use Rattle.std.proofs.Common.{◌≡◌, ◌==◌, ◌%◌, List, ap, ◌∙◌, sym}
 use Rattle.std.proofs.lemmas.List.{take_all}
 use Rattle.qv_rewrite_sums.specs.declared.product.Product.{Product}
-use Rattle.qv_rewrite_sums.proofs.Zero.{total, total-more}
+use Rattle.qv_rewrite_sums.proofs.Odd.{total, total-more}
 use Rattle.qv_rewrite_sums.proofs.zero.total_is_odd.Goals as goal
 
 pub products-preserved : goal.products-preserved

@@ -42,10 +42,6 @@ same-missing trees w n ids left shared h words none =
     ap (λ (q : Option (List Tree)). unwrap_or (option_map (same_factors (map (tree_at trees) ids)) q) false)
     (without-first trees w n left shared h words ∙ ap (option_map (λ j. map (tree_at trees) (remove left j))) none)
 
-pub same-none : (ts : List Tree) → same_factors [] ts ≡ (length ts == 0)
-same-none [] = refl
-same-none (t ∷ ts) = refl
-
 -- what is taken out leaves words
 pub removed-words : {X : Type 0} (P : X → Type 0) (xs : List X) (k : ℕ) → AllByRecursion P xs → AllByRecursion P (remove xs k)
 removed-words P [] zero h = tt

@@ -9,7 +9,7 @@ use Rattle.qv_words.specs.Tree.{Tree}
 use Rattle.qv_words.specs.Sums.{Monomial, has_factors, is_odd}
 use Rattle.qv_rewrite_sums.specs.declared.product.Product.{Product}
 use Rattle.qv_rewrite_sums.specs.Held.{monomial_at, sum_at}
-use Rattle.qv_rewrite_sums.proofs.Combining.{found-any}
+use Rattle.qv_rewrite_sums.proofs.Combined.{found-any}
 
 abbrev pub total : List Tree → List Product → ℕ
 total trees p = fold (λ (n : ℕ) (m : Monomial). n + m.coefficient) 0 (sum_at trees p)
