@@ -1,5 +1,5 @@
 -- The sums of a walk's terms, over a store that grows.
-use Rattle.std.proofs.Common.{◌≡◌, ℕ, zero, suc, ◌+◌, ◌<◌, ◌≤◌, Option, Some, None, List, [], ◌∷◌, ◌++◌, Vec, map, length, get_or, slice_get, drop, inl, inr, refl, ap, sym, ◌∙◌, subst, arith}
+use Rattle.std.proofs.Common.{◌≡◌, ℕ, zero, suc, ◌+◌, ◌<◌, ◌≤◌, Option, Some, None, List, [], ◌∷◌, ◌++◌, Vec, map, length, get_or, slice_get, ◌⊎◌, inl, inr, refl, ap, sym, ◌∙◌, subst, arith}
 use Rattle.std.specs.declared.alloc.Global.{Global}
 use Rattle.std.proofs.lemmas.List.{length-append, length-map, map-append}
 use Rattle.std.specs.List.{AllByRecursion}
@@ -32,15 +32,14 @@ sums-grown old new tree ids sums grows h = λ k n p at found. sum-grown old new 
 
 -- one sum more
 pub sums-push : (trees : List Tree) (tree : ℕ → Tree) (ids : List ℕ) (sums : List (List Product)) (n : ℕ) (p : List Product) → AreSums trees tree ids sums → slice_get ids (length sums) ≡ Some n → IsSumOf trees (tree n) p → AreSums trees tree ids (sums ++ p ∷ [])
-sums-push trees tree ids sums n p h at own = λ k m q there found. elim (pushed-cases sums p k q found) [
-  inl before ↦ h k m q there before
-| inr last ↦
-      let same : m ≡ n = cc-some (sym there ∙ ap (slice_get ids) last.0 ∙ at) in
-      subst (λ (r : List Product). IsSumOf trees (tree m) r) last.1 (subst (λ (j : ℕ). IsSumOf trees (tree j) p) (sym same) own)
-]
+sums-push trees tree ids sums n p h at own k m q there found = by (pushed-cases sums p k q found)
   where
-    cc-some : {a b : ℕ} → Some a ≡ Some b → a ≡ b
-    cc-some e = cc
+    by : (slice_get sums k ≡ Some q) ⊎ ((k ≡ length sums) × (p ≡ q)) → IsSumOf trees (tree m) q
+    by (inl before) = h k m q there before
+    by (inr last) =
+        let same : Some n ≡ Some m = sym at ∙ sym (ap (slice_get ids) last.0) ∙ there in
+        let one : n ≡ m = cc in
+        subst (λ (r : List Product). IsSumOf trees (tree m) r) last.1 (subst (λ (j : ℕ). IsSumOf trees (tree j) p) one own)
 
 -- the sum that was found for a term
 pub sum-found : (trees : List Tree) (tree : ℕ → Tree) (ids : List ℕ) (sums : List (Vec Product Global)) (n : ℕ) (v : Vec Product Global) → AreSums trees tree ids (sums_in sums) → IsFound ids sums n v → IsSumOf trees (tree n) v.items

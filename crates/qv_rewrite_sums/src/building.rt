@@ -234,13 +234,7 @@ fn put_words(
 }
 
 // The same of one.
-fn put_word(
-    alloc: Global,
-    store: &mut Store,
-    op: Op,
-    width: u8,
-    a: Id,
-) -> Result<Id, NoMemory>
+fn put_word(alloc: Global, store: &mut Store, op: Op, width: u8, a: Id) -> Result<Id, NoMemory>
     requires rank { result_sort op (Bits width ∷ []) ≡ Some (Bits width) }
     requires a { IsWord width (tree_at store.old a) }
     ensures id { IfOk result (λ id. StandsAs store.new (Bits width) id

@@ -18,7 +18,9 @@ use std::alloc::Global;
 
 // A longer sum isn't collected, and a longer collected one or a product of more isn't kept.
 const MOST_RAW: usize = 48;
+
 const MOST_PRODUCTS: usize = 24;
+
 const MOST_FACTORS: usize = 4;
 
 // The sum of an operator's application to one argument, unless it is long.
@@ -252,12 +254,7 @@ fn push_times(
 }
 
 // The product of two.
-fn multiplied(
-    alloc: Global,
-    width: u8,
-    a: &Product,
-    b: &Product,
-) -> Result<Product, NoMemory>
+fn multiplied(alloc: Global, width: u8, a: &Product, b: &Product) -> Result<Product, NoMemory>
     requires low { 1 ≤ width }
     requires high { width ≤ 128 }
     ensures { (trees : List Tree) → IfOk result (λ made. monomial_at trees made

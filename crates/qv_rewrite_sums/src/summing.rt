@@ -276,12 +276,7 @@ fn terms_of(
 }
 
 // The term of the sum of a term.
-fn term_of(
-    alloc: Global,
-    store: &mut Store,
-    id: Id,
-    sum: &[Product],
-) -> Result<Id, NoMemory>
+fn term_of(alloc: Global, store: &mut Store, id: Id, sum: &[Product]) -> Result<Id, NoMemory>
     requires id { id < length store.old }
     requires sum { IsSumOf store.old (tree_at store.old id) sum.now }
     ensures id { IfOk result (λ made. StandsAt store.new made (summed (tree_at store.old id))) }
