@@ -75,7 +75,7 @@ collected-rest w p = fold-rest (2 ^ w) [] p
 
 -- how many products two sums have
 pub length-products : (p q : Polynomial) → length (products p q) ≡ length p * length q
-length-products [] q = refl
+length-products [] q = omega arith
 length-products (m ∷ p) q =
     let first : length (map (times m) q) ≡ length q = length-map q (times m) in
     let rest = length-products p q in
@@ -85,17 +85,16 @@ length-products (m ∷ p) q =
 -- what of a sum is kept
 pub kept-or_atom : (w : ℕ) (q : Option Polynomial) (t : Tree) → unwrap_or (kept (option_map (collected w) (short_raw q))) (atom t) ≡ sum_or_atom w q t
 kept-or_atom w None t = refl
-kept-or_atom w (Some raw) t = go (nat_le (length raw) 48) (nat_le (length (collected w raw)) 24) (is_none (find (λ (m : Monomial). nat_lt 4 (length m.factors)) (collected w raw)))
+kept-or_atom w (Some raw) t = first (nat_le (length raw) 48)
   where
-    go : (a b c : Bool) → unwrap_or (option_and_then (λ (p : Polynomial). cond (b && c) (Some p) None) (option_map (collected w) (cond a (Some raw) None))) (atom t) ≡ cond (a && b && c) (collected w raw) (atom t)
-    go true true true = refl
-    go true true false = refl
-    go true false true = refl
-    go true false false = refl
-    go false true true = refl
-    go false true false = refl
-    go false false true = refl
-    go false false false = refl
+    rest : (b c : Bool) → unwrap_or (cond (b && c) (Some (collected w raw)) None) (atom t) ≡ cond (b && c) (collected w raw) (atom t)
+    rest true true = refl
+    rest true false = refl
+    rest false c = refl
+
+    first : (a : Bool) → unwrap_or (kept (option_map (collected w) (cond a (Some raw) None))) (atom t) ≡ cond (a && nat_le (length (collected w raw)) 24 && is_none (find (λ (m : Monomial). nat_lt 4 (length m.factors)) (collected w raw))) (collected w raw) (atom t)
+    first true = rest (nat_le (length (collected w raw)) 24) (is_none (find (λ (m : Monomial). nat_lt 4 (length m.factors)) (collected w raw)))
+    first false = refl
 
 -- a monomial that passes a test
 pub found-any : {X Y : Type 0} (test : Y → Bool) (f : X → Y) (xs : List X) → is_none (find test (map f xs)) ≡ not (list_any (λ x. test (f x)) xs)

@@ -28,38 +28,31 @@ pushed {A} {B} {X} g h part y xs k x low at e =
     (map-append g part (y ∷ []) ∙ ap (λ (b : B). map g part ++ b ∷ []) e) refl
 
 -- the first place that passes a test
+unmapped : (q : Option ℕ) → option_map suc q ≡ None → q ≡ None
+unmapped None h = refl
+unmapped (Some n) h = absurd (cc)
+
 pub place-found : {X : Type 0} (test : X → Bool) (xs : List X) (k : ℕ) (d : X) → first_place test (take k xs) ≡ None → k < length xs → test (get_or xs k d) ≡ true → first_place test xs ≡ Some k
 place-found test [] k d none low is = absurd (omega (arith, low))
 place-found test (x ∷ xs) zero d none low is = ap (λ (b : Bool). cond b (Some 0) (option_map suc (first_place test xs))) is
-place-found {X} test (x ∷ xs) (suc k) d none low is = go (test x) none
+place-found {X} test (x ∷ xs) (suc k) d none low is = go (test x) none (λ h. place-found test xs k d h (omega (arith, low)) is)
   where
-    inner : first_place test (take k xs) ≡ None → first_place test xs ≡ Some k
-    inner h = place-found test xs k d h (omega (arith, low)) is
+    go : (b : Bool) → cond b (Some 0) (option_map suc (first_place test (take k xs))) ≡ None → (first_place test (take k xs) ≡ None → first_place test xs ≡ Some k) → cond b (Some 0) (option_map suc (first_place test xs)) ≡ Some (suc k)
+    go true h inner = absurd (cc)
+    go false h inner = ap (option_map suc) (inner (unmapped (first_place test (take k xs)) h))
 
-    go : (b : Bool) → cond b (Some 0) (option_map suc (first_place test (take k xs))) ≡ None → cond b (Some 0) (option_map suc (first_place test xs)) ≡ Some (suc k)
-    go true h = absurd (cc)
-    go false h = ap (option_map suc) (inner (unmapped (first_place test (take k xs)) h))
-      where
-        unmapped : (q : Option ℕ) → option_map suc q ≡ None → q ≡ None
-        unmapped None h = refl
-        unmapped (Some n) h = absurd (cc)
+place-steps : {X : Type 0} (test : X → Bool) (ys : List X) (j : ℕ) (d : X) → first_place test (take j ys) ≡ None → j < length ys → test (get_or ys j d) ≡ false → first_place test (take (suc j) ys) ≡ None
+place-steps test [] j d h low other = refl
+place-steps test (y ∷ ys) zero d h low other = ap (λ (b : Bool). cond b (Some 0) None) other
+place-steps {X} test (y ∷ ys) (suc j) d h low other = go (test y) h (λ e. place-steps test ys j d e (omega (arith, low)) other)
+  where
+    go : (b : Bool) → cond b (Some 0) (option_map suc (first_place test (take j ys))) ≡ None → (first_place test (take j ys) ≡ None → first_place test (take (suc j) ys) ≡ None) → cond b (Some 0) (option_map suc (first_place test (take (suc j) ys))) ≡ None
+    go true e inner = absurd (cc)
+    go false e inner = ap (option_map suc) (inner (unmapped (first_place test (take j ys)) e))
 
 pub place-more : {X : Type 0} (test : X → Bool) (xs : List X) (k : ℕ) (d : X) → first_place test (take k xs) ≡ None → k < length xs → test (get_or xs k d) ≡ false → first_place test (take (k + 1) xs) ≡ None
-place-more {X} test xs k d none low not_here =
-    subst (λ (n : ℕ). first_place test (take n xs) ≡ None) (let one : suc k ≡ k + 1 = omega arith in one) (steps xs k none low not_here)
-  where
-    steps : (ys : List X) (j : ℕ) → first_place test (take j ys) ≡ None → j < length ys → test (get_or ys j d) ≡ false → first_place test (take (suc j) ys) ≡ None
-    steps [] j h low other = refl
-    steps (y ∷ ys) zero h low other = ap (λ (b : Bool). cond b (Some 0) None) other
-    steps (y ∷ ys) (suc j) h low other = go (test y) h
-      where
-        unmapped : (q : Option ℕ) → option_map suc q ≡ None → q ≡ None
-        unmapped None h = refl
-        unmapped (Some n) h = absurd (cc)
-
-        go : (b : Bool) → cond b (Some 0) (option_map suc (first_place test (take j ys))) ≡ None → cond b (Some 0) (option_map suc (first_place test (take (suc j) ys))) ≡ None
-        go true e = e
-        go false e = ap (option_map suc) (steps ys j (unmapped (first_place test (take j ys)) e) (omega (arith, low)) other)
+place-more test xs k d none low other =
+    subst (λ (n : ℕ). first_place test (take n xs) ≡ None) (let one : suc k ≡ k + 1 = omega arith in one) (place-steps test xs k d none low other)
 
 -- an element put in at its place
 pub put-at_place : {X Y : Type 0} (before : Y → Y → Bool) (g : X → Y) (x : X) (xs : List X) → map g (insert xs (place_or_end (λ z. not (before (g z) (g x))) xs) x) ≡ put_in before (g x) (map g xs)

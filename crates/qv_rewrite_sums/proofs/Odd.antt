@@ -23,7 +23,7 @@ total-more trees p k odd x low at so =
     ∙ ap (fold (λ (n : ℕ) (m : Monomial). n + m.coefficient) 0) (map-append (monomial_at trees) (take k p) (x ∷ []))
     ∙ fold_push (λ (n : ℕ) (m : Monomial). n + m.coefficient) 0 (sum_at trees (take k p)) (monomial_at trees x) in
     ap (λ (n : ℕ). (n + x.coefficient % 2) % 2) so
-    ∙ add-mod-mod (s % 2) x.coefficient 2 ∙ mod-add-mod s x.coefficient 2
+    ∙ add-mod-mod (s % 2) x.coefficient 2 ∙ mod-add-mod s 2 x.coefficient
     ∙ ap (λ (n : ℕ). n % 2) (sym whole)
 
 -- by a test of each product, and the total

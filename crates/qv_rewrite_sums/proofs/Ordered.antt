@@ -92,3 +92,10 @@ inserted P [] zero x h k = (k, tt)
 inserted P [] (suc n) x h k = (k, tt)
 inserted P (y ∷ xs) zero x h k = (k, h)
 inserted P (y ∷ xs) (suc n) x h k = (h.0, inserted P xs n x h.1 k)
+
+-- and where the first factor decides
+pub factors-decided : (trees : List Tree) (a b : List ℕ) (k x y : ℕ) → k < length a → k < length b → x ≡ get_or a k x → y ≡ get_or b k y → comes_before (tree_at trees x) (tree_at trees y) ≡ true → factors_before (map (tree_at trees) (drop k a)) (map (tree_at trees) (drop k b)) ≡ true
+factors-decided trees a b k x y la lb ax by p =
+    ap (λ (ns : List ℕ). factors_before (map (tree_at trees) ns) (map (tree_at trees) (drop k b))) (drop_more a k x la ∙ ap (λ (m : ℕ). m ∷ drop (k + 1) a) (sym ax))
+    ∙ ap (λ (ms : List ℕ). factors_before (map (tree_at trees) (x ∷ drop (k + 1) a)) (map (tree_at trees) ms)) (drop_more b k y lb ∙ ap (λ (m : ℕ). m ∷ drop (k + 1) b) (sym by))
+    ∙ ap (λ (z : Bool). z || not (comes_before (tree_at trees y) (tree_at trees x)) && factors_before (map (tree_at trees) (drop (k + 1) a)) (map (tree_at trees) (drop (k + 1) b))) p

@@ -124,13 +124,14 @@ pub record IsSingle (trees : List Tree) (p : List Product) (t : Tree) : Type 0 w
   pub factors_are : product.factors.items ≡ factor ∷ []
   pub tree : tree_at trees factor ≡ t
 
+abbrev first-factors : Polynomial → List Tree
+first-factors [] = []
+first-factors (m ∷ p) = m.factors
+
 pub single : (trees : List Tree) (p : List Product) (t : Tree) → sum_at trees p ≡ atom t → IsSingle trees p t
 single trees [] t e = absurd (cc)
-single trees (m ∷ []) t e = go m.factors.items refl (heads e)
+single trees (m ∷ []) t e = go m.factors.items refl (ap first-factors e)
   where
-    heads : sum_at trees (m ∷ []) ≡ atom t → map (tree_at trees) m.factors.items ≡ t ∷ []
-    heads x = cc
-
     go : (ids : List ℕ) → m.factors.items ≡ ids → map (tree_at trees) m.factors.items ≡ t ∷ [] → IsSingle trees (m ∷ []) t
     go [] is x = let none : map (tree_at trees) [] ≡ t ∷ [] = subst (λ (ns : List ℕ). map (tree_at trees) ns ≡ t ∷ []) is x in absurd (cc)
     go (n ∷ []) is x =

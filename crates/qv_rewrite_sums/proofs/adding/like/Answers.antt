@@ -1,4 +1,4 @@
-use Rattle.std.proofs.Common.{◌≡◌, ℕ, Bool, true, false, List, map, ap, sym, ◌∙◌, subst}
+use Rattle.std.proofs.Common.{◌≡◌, ℕ, Bool, true, false, List, map, get_or, ap, sym, ◌∙◌, subst}
 use Rattle.qv_words.specs.Sums.{Monomial, same_factors}
 use Rattle.qv_store.specs.Nodes.{tree_at}
 use Rattle.qv_rewrite_sums.specs.declared.product.Product.{Product}
@@ -10,20 +10,21 @@ use Rattle.qv_rewrite_sums.proofs.adding.like.Goals as goal
 pub same_factors-requires-clause-a : goal.same_factors-requires-clause-a
 same_factors-requires-clause-a c =
     subst (λ (ids : List ℕ). AreWords c.args.width (map (tree_at c.args.store.now) ids)) (sym c.as_slice.ensures)
-    (at-mapped (λ (m : Monomial). AreWords c.args.width m.factors) (monomial_at c.args.store.now) c.args.sum.now c.products.place c.index-sum-place.result c.requires.sum c.products-test.true c.index-sum-place.is)
+    (subst (λ (m : Product). AreWords c.args.width (map (tree_at c.args.store.now) m.factors.items)) c.index-sum-place.is
+    (at-mapped (λ (m : Monomial). AreWords c.args.width m.factors) (monomial_at c.args.store.now) c.args.sum.now c.products.place c.index-sum-place.result c.requires.sum c.products-test.true c.index-sum-place.is))
 
 pub returns-then-branch-clause-place : goal.returns-then-branch-clause-place
 returns-then-branch-clause-place c =
     let trees = c.args.store.now in
     let factors = c.args.factors.now in
-    let own : is_like trees factors c.index-sum-place.result ≡ true =
+    let own : is_like trees factors (get_or c.args.sum.now c.products.place c.index-sum-place.result) ≡ true =
     ap (λ (ids : List ℕ). same_factors (map (tree_at trees) ids) (map (tree_at trees) factors)) (sym c.as_slice.ensures) ∙ sym c.in_ok-same_factors.ensures ∙ c.if-branch.true in
-    sym (place-found (is_like trees factors) c.args.sum.now c.products.place c.index-sum-place.result c.products.invariant c.products-test.true (subst (λ (m : Product). is_like trees factors m ≡ true) c.index-sum-place.is own))
+    sym (place-found (is_like trees factors) c.args.sum.now c.products.place c.index-sum-place.result c.products.invariant c.products-test.true own)
 
 pub products-preserved : goal.products-preserved
 products-preserved c =
     let trees = c.args.store.now in
     let factors = c.args.factors.now in
-    let own : is_like trees factors c.index-sum-place.result ≡ false =
+    let own : is_like trees factors (get_or c.args.sum.now c.products.place c.index-sum-place.result) ≡ false =
     ap (λ (ids : List ℕ). same_factors (map (tree_at trees) ids) (map (tree_at trees) factors)) (sym c.as_slice.ensures) ∙ sym c.in_ok-same_factors.ensures ∙ c.if-branch.false in
-    place-more (is_like trees factors) c.args.sum.now c.products.place c.index-sum-place.result c.products.invariant c.products-test.true (subst (λ (m : Product). is_like trees factors m ≡ false) c.index-sum-place.is own)
+    place-more (is_like trees factors) c.args.sum.now c.products.place c.index-sum-place.result c.products.invariant c.products-test.true own

@@ -9,12 +9,12 @@ use Rattle.qv_rewrite_sums.proofs.Held.{values-below}
 use Rattle.qv_rewrite_sums.proofs.Fitting.{added-fits, subtracted-fits}
 use Rattle.qv_rewrite_sums.proofs.building.ordered_term.Goals as goal
 
-pub added-plus-requires-clause-values : goal.added-plus-requires-clause-values
-added-plus-requires-clause-values c =
+pub added-requires-clause-values : goal.added-requires-clause-values
+added-requires-clause-values c =
     All-from_recursion (λ (m : Product). m.coefficient < 2 ^ c.args.width) c.args.ordered.now (values-below c.args.store.now c.args.width c.args.ordered.now c.requires.fits)
 
-pub subtracted-minus-requires-clause-values : goal.subtracted-minus-requires-clause-values
-subtracted-minus-requires-clause-values c =
+pub subtracted-requires-clause-values : goal.subtracted-requires-clause-values
+subtracted-requires-clause-values c =
     All-from_recursion (λ (m : Product). m.coefficient < 2 ^ c.args.width) c.args.ordered.now (values-below c.args.store.now c.args.width c.args.ordered.now c.requires.fits)
 
 pub difference_term-requires : goal.difference_term-requires

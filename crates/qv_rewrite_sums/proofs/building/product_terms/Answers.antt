@@ -24,11 +24,11 @@ product_term-requires-clause-fits c =
 pub products-preserved : goal.products-preserved
 products-preserved c =
     let more =
-    terms-more c.args.store.now c.products.store c.product_term-term.new.store c.args.width c.products.product-index c.products.terms.items c.in_ok-term.term c.args.sum.now c.product-item.result
-    c.products.invariant.grows c.product_term-term.ensures.grows c.products-test.true c.product-item.is c.requires.fits c.products.invariant.terms c.in_ok-term.ensures.id in
+    terms-more c.args.store.now c.products.store c.product_term.new.store c.args.width c.products.product-index c.products.terms.items c.in_ok-term.term c.args.sum.now c.product-item.result
+    c.products.invariant.grows c.product_term.ensures.grows c.products-test.true c.product-item.is c.requires.fits c.products.invariant.terms c.in_ok-term.ensures.id in
     record {
-      grows = grows-more c.args.store.now c.products.store c.product_term-term.new.store c.products.invariant.grows c.product_term-term.ensures.grows;
-      terms = subst (λ (ids : List ℕ). AreTerms c.args.store.now c.product_term-term.new.store c.args.width ids (take (c.products.product-index + 1) c.args.sum.now)) (sym c.in_ok-push.ensures.items) more;
+      grows = grows-more c.args.store.now c.products.store c.product_term.new.store c.products.invariant.grows c.product_term.ensures.grows;
+      terms = subst (λ (ids : List ℕ). AreTerms c.args.store.now c.product_term.new.store c.args.width ids (take (c.products.product-index + 1) c.args.sum.now)) (sym c.in_ok-push.ensures.items) more;
     }
 
 pub returns : goal.returns

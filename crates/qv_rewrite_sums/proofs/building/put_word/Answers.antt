@@ -20,7 +20,7 @@ pub put-requires-clause-sorted : goal.put-requires-clause-sorted
 put-requires-clause-sorted c =
     let t = tree_at c.args.store.now c.args.a in
     subst (λ (ks : List ℕ). IsSorted (Apply c.args.op (trees_at c.args.store.now ks))) (sym c.in_ok-kids.ensures.ok)
-    (sorted-unary c.args.op t (Bits c.args.width) (c.len-_terms.ensures.shared.sorted c.args.a (word-below c.args.store.now c.args.width c.args.a c.requires.a)) (sort-unary c.args.op c.args.width t c.requires.a c.requires.rank))
+    (sorted-unary c.args.op t (Bits c.args.width) (c.len-terms.ensures.shared.sorted c.args.a (word-below c.args.store.now c.args.width c.args.a c.requires.a)) (sort-unary c.args.op c.args.width t c.requires.a c.requires.rank))
 
 pub returns-clause-id : goal.returns-clause-id
 returns-clause-id c =

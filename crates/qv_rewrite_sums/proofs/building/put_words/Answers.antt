@@ -10,7 +10,7 @@ pub put_two-requires : goal.put_two-requires
 put_two-requires c = record {
   a = word-below c.args.store.now c.args.width c.args.a c.requires.a;
   b = word-below c.args.store.now c.args.width c.args.b c.requires.b;
-  sorted = words-sorted c.args.store.now c.args.op c.args.width (Bits c.args.width) c.args.a c.args.b c.len-_terms.ensures.shared c.requires.a c.requires.b c.requires.rank;
+  sorted = words-sorted c.args.store.now c.args.op c.args.width (Bits c.args.width) c.args.a c.args.b c.len-terms.ensures.shared c.requires.a c.requires.b c.requires.rank;
 }
 
 pub returns-clause-id : goal.returns-clause-id

@@ -14,8 +14,8 @@ pub put_number-requires-clause-value : goal.put_number-requires-clause-value
 put_number-requires-clause-value c =
     number-fits c.args.width (sum_at c.args.store.now c.args.sum.now) c.in-Some.value c.requires.fits (sym (c.number_of.ensures c.args.store.now) ∙ c.in-Some.is)
 
-pub with_order-ordered-requires : goal.with_order-ordered-requires
-with_order-ordered-requires c = words-below c.args.store.now c.args.width c.args.sum.now (fit-words c.args.width (sum_at c.args.store.now c.args.sum.now) c.requires.fits)
+pub with_order-requires : goal.with_order-requires
+with_order-requires c = words-below c.args.store.now c.args.width c.args.sum.now (fit-words c.args.width (sum_at c.args.store.now c.args.sum.now) c.requires.fits)
 
 pub ordered_term-requires : goal.ordered_term-requires
 ordered_term-requires c = record {

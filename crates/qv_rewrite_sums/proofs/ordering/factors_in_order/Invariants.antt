@@ -11,3 +11,6 @@ invariant-left l = record {
   order : map (tree_at l.store) l.ordered.items ≡ in_order comes_before (map (tree_at l.store) (drop l.left l.factors));
   below : All (λ id. id < length l.store) l.ordered.items;
 }
+
+abbrev pub decreases-left : goal.decreases-left
+decreases-left l = l.left

@@ -10,3 +10,6 @@ invariant-left l = record {
   order : sum_at l.store l.ordered.items ≡ with_order (sum_at l.store (drop l.left l.sum));
   below : AreBelow (length l.store) l.ordered.items;
 }
+
+abbrev pub decreases-left : goal.decreases-left
+decreases-left l = l.left

@@ -11,8 +11,8 @@ use Rattle.qv_rewrite_sums.proofs.summing.short_sum.Goals as goal
 pub raw_sum-requires : goal.raw_sum-requires
 raw_sum-requires c = record { low = c.requires.low; high = c.requires.high; found = c.requires.application.found; kids = c.requires.application.kids_earlier }
 
-pub collected-sum-requires : goal.collected-sum-requires
-collected-sum-requires c =
+pub collected-requires : goal.collected-requires
+collected-requires c =
     let made : Some (sum_at c.args.store.now c.in-Some.raw.items) ≡ option_map (modulo (2 ^ c.args.width)) (short_raw (combined c.args.op c.args.width (polynomials (trees_at c.args.store.now c.args.kids.now)))) =
     ap (option_map (λ (v : Vec Product Global). sum_at c.args.store.now v.items)) (sym c.in-Some.is) ∙ c.in_ok-raw_sum.ensures in
     record {

@@ -13,23 +13,23 @@ terms-init c = record {
   many = ap length c.new-sums.ensures.items;
 }
 
-pub next_sum-next-requires : goal.next_sum-next-requires
-next_sum-next-requires c = record {
+pub next_sum-requires : goal.next_sum-requires
+next_sum-requires c = record {
   id = next-low c.args.store.now c.terms.store c.ids-id-items.result.now c.args.walk.now c.terms.id-index c.id-item.result c.terms.invariant.grows c.ids-id-items.ensures c.terms-test.true c.id-item.is c.requires.walk;
   next = next-of c.args.store.now c.terms.store c.ids-id-items.result.now c.args.walk.now c.terms.sums.items c.deref.result.now c.terms.id-index c.id-item.result
       c.terms.invariant.grows c.ids-id-items.ensures c.deref.ensures.value c.terms.invariant.many c.terms-test.true c.id-item.is c.requires.walk c.terms.invariant.sums;
 }
 
 pub returns-in_err-next-clause-grows : goal.returns-in_err-next-clause-grows
-returns-in_err-next-clause-grows c = grows-more c.args.store.now c.terms.store c.next_sum-next.new.store c.terms.invariant.grows c.next_sum-next.ensures.grows
+returns-in_err-next-clause-grows c = grows-more c.args.store.now c.terms.store c.next_sum.new.store c.terms.invariant.grows c.next_sum.ensures.grows
 
 pub returns-in_err-push-clause-grows : goal.returns-in_err-push-clause-grows
-returns-in_err-push-clause-grows c = grows-more c.args.store.now c.terms.store c.next_sum-next.new.store c.terms.invariant.grows c.next_sum-next.ensures.grows
+returns-in_err-push-clause-grows c = grows-more c.args.store.now c.terms.store c.next_sum.new.store c.terms.invariant.grows c.next_sum.ensures.grows
 
 pub terms-preserved : goal.terms-preserved
 terms-preserved c = record {
-  grows = grows-more c.args.store.now c.terms.store c.next_sum-next.new.store c.terms.invariant.grows c.next_sum-next.ensures.grows;
-  sums = sums-more c.args.store.now c.terms.store c.next_sum-next.new.store c.ids-id-items.result.now c.args.walk.now c.terms.sums.items c.push.new.self.items c.terms.id-index c.id-item.result c.in_ok-next.next
-      c.terms.invariant.grows c.next_sum-next.ensures.grows c.ids-id-items.ensures c.terms.invariant.many c.terms-test.true c.id-item.is c.requires.walk c.terms.invariant.sums c.in_ok-next.ensures.sum c.in_ok-push.ensures.items;
+  grows = grows-more c.args.store.now c.terms.store c.next_sum.new.store c.terms.invariant.grows c.next_sum.ensures.grows;
+  sums = sums-more c.args.store.now c.terms.store c.next_sum.new.store c.ids-id-items.result.now c.args.walk.now c.terms.sums.items c.push.new.self.items c.terms.id-index c.id-item.result c.in_ok-next.next
+      c.terms.invariant.grows c.next_sum.ensures.grows c.ids-id-items.ensures c.terms.invariant.many c.terms-test.true c.id-item.is c.requires.walk c.terms.invariant.sums c.in_ok-next.ensures.sum c.in_ok-push.ensures.items;
   many = omega (arith, ap length c.in_ok-push.ensures.items, length-append c.terms.sums.items (c.in_ok-next.next ∷ []), c.terms.invariant.many);
 }

@@ -26,8 +26,8 @@ sum_of-found-requires c = record {
   id = subst (λ (n : ℕ). IsEarlier c.args.walk.now (length c.args.sums.now) n) (sym c.kid-item.is) (c.requires.kids c.kids.kid-index c.kid-item.result c.kids-test.true);
 }
 
-pub term_of-term-requires : goal.term_of-term-requires
-term_of-term-requires c =
+pub term_of-requires : goal.term_of-requires
+term_of-requires c =
     let low = subst (λ (n : ℕ). n < length c.args.store.now) (sym c.kid-item.is) (c.requires.below c.kids.kid-index c.kid-item.result c.kids-test.true) in
     record {
       id = grown-within c.args.store.now c.kids.store c.kids.invariant.grows c.kid-item.result low;
@@ -35,18 +35,18 @@ term_of-term-requires c =
     }
 
 pub returns-in_err-term-clause-grows : goal.returns-in_err-term-clause-grows
-returns-in_err-term-clause-grows c = grows-more c.args.store.now c.kids.store c.term_of-term.new.store c.kids.invariant.grows c.term_of-term.ensures.grows
+returns-in_err-term-clause-grows c = grows-more c.args.store.now c.kids.store c.term_of.new.store c.kids.invariant.grows c.term_of.ensures.grows
 
 pub returns-in_err-push-clause-grows : goal.returns-in_err-push-clause-grows
-returns-in_err-push-clause-grows c = grows-more c.args.store.now c.kids.store c.term_of-term.new.store c.kids.invariant.grows c.term_of-term.ensures.grows
+returns-in_err-push-clause-grows c = grows-more c.args.store.now c.kids.store c.term_of.new.store c.kids.invariant.grows c.term_of.ensures.grows
 
 pub kids-preserved : goal.kids-preserved
 kids-preserved c =
     let low = subst (λ (n : ℕ). n < length c.args.store.now) (sym c.kid-item.is) (c.requires.below c.kids.kid-index c.kid-item.result c.kids-test.true) in
-    let own = subst (λ (t : Tree). StandsAt c.term_of-term.new.store c.in_ok-term.term (summed t)) (grown-tree c.args.store.now c.kids.store c.kids.invariant.grows c.kid-item.result low) c.in_ok-term.ensures.id in
+    let own = subst (λ (t : Tree). StandsAt c.term_of.new.store c.in_ok-term.term (summed t)) (grown-tree c.args.store.now c.kids.store c.kids.invariant.grows c.kid-item.result low) c.in_ok-term.ensures.id in
     record {
-      grows = grows-more c.args.store.now c.kids.store c.term_of-term.new.store c.kids.invariant.grows c.term_of-term.ensures.grows;
-      terms = zip-terms_more c.args.store.now c.kids.store c.term_of-term.new.store c.args.kids.now c.kids.terms.items c.push.new.self.items c.kids.kid-index c.kid-item.result c.in_ok-term.term c.term_of-term.ensures.grows c.kids.invariant.terms c.kids-test.true c.kid-item.is own c.in_ok-push.ensures.ok;
+      grows = grows-more c.args.store.now c.kids.store c.term_of.new.store c.kids.invariant.grows c.term_of.ensures.grows;
+      terms = zip-terms_more c.args.store.now c.kids.store c.term_of.new.store c.args.kids.now c.kids.terms.items c.push.new.self.items c.kids.kid-index c.kid-item.result c.in_ok-term.term c.term_of.ensures.grows c.kids.invariant.terms c.kids-test.true c.kid-item.is own c.in_ok-push.ensures.ok;
     }
 
 pub returns-clause-terms : goal.returns-clause-terms
