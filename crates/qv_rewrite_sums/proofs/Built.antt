@@ -12,13 +12,13 @@ use Rattle.qv_words.specs.Sorted.{IsSorted}
 use Rattle.qv_words.specs.Prenex.{binary}
 use Rattle.qv_words.specs.Inverse.{unary}
 use Rattle.qv_words.proofs.Leaves.{both}
-use Rattle.qv_words.specs.Sums.{Monomial, Polynomial, product_term}
+use Rattle.qv_words.specs.Sums.{Monomial, Polynomial, product_term, sum_term}
 use Rattle.qv_store.specs.Nodes.{tree_at}
 use Rattle.qv_store.specs.Stores.{AreShared, Grows, StandsAt}
 use Rattle.qv_store.proofs.Replacement.{grown-tree, grown-within, grows-more}
 use Rattle.qv_rewrite_sums.specs.declared.product.Product.{Product}
 use Rattle.qv_rewrite_sums.specs.Held.{monomial_at, sum_at, IsWord, AreWords, IsOfWords, AreOfWords, AreBelow, StandsAs}
-use Rattle.qv_rewrite_sums.proofs.Held.{word-below, at-place, at-mapped, words-factors_below, words-below, fit-words, grown-ids, grown-monomial}
+use Rattle.qv_rewrite_sums.proofs.Held.{word-below, at-place, at-mapped, words-factors_below, words-below, fit-words, grown-ids, grown-monomial, grown-sum}
 use Rattle.qv_rewrite_sums.proofs.Fitting.{sort-binary, sorted-binary}
 
 pub grows-itself : (trees : List Tree) → Grows trees trees
@@ -71,3 +71,13 @@ terms-more old now new w k ids id sum x g h low at fits so s =
       words = subst (AreWords w) (sym parts)
           (both (IsWord w) (map (tree_at new) ids) (tree_at new id ∷ []) (subst (AreWords w) (sym kept) so.words) (ap tree_sort s.stands.tree ∙ s.sort, tt));
     }
+
+-- two sums' terms, one put after the other
+pub second-sum : (old now : List Tree) (w : ℕ) (q : List Product) → Grows old now → AreOfWords w (sum_at old q) → sum_at now q ≡ sum_at old q
+second-sum old now w q g fits = grown-sum old now q g (words-below old w q (fit-words w (sum_at old q) fits))
+
+pub two-terms : (old now new : List Tree) (o : Op) (w first second : ℕ) (p q : List Product) → Grows old now → Grows now new → AreOfWords w (sum_at old q) → StandsAs now (Bits w) first (sum_term w (sum_at old p)) → StandsAs new (Bits w) second (sum_term w (sum_at now q))
+    → binary o (tree_at new first) (tree_at new second) ≡ binary o (sum_term w (sum_at old p)) (sum_term w (sum_at old q))
+two-terms old now new o w first second p q g h fits s t =
+    ap (λ (u : Tree). binary o u (tree_at new second)) (grown-tree now new h first s.stands.below ∙ s.stands.tree)
+    ∙ ap (λ (u : Tree). binary o (sum_term w (sum_at old p)) u) (t.stands.tree ∙ ap (sum_term w) (second-sum old now w q g fits))

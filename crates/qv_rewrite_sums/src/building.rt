@@ -2,6 +2,7 @@
 
 ghost use Rattle.std.specs.Prelude.{◌≡◌, ◌^◌, ◌≤◌, ◌<◌, ◌∷◌, [], Some, IfOk, OnOk, length, map, fold};
 ghost use Rattle.qv_words.specs.declared.sort.Sort.TheVariants.{Bits};
+ghost use Rattle.qv_words.specs.declared.op.Op.TheVariants.{BvSub};
 ghost use Rattle.qv_words.specs.Rank.{result_sort};
 ghost use Rattle.qv_words.specs.Tree.{tree_sort};
 ghost use Rattle.qv_words.specs.Sorted.{IsSorted};
@@ -88,6 +89,26 @@ fn difference_term(
     if plus.is_empty() {
         return opposite_term(alloc, store, width, minus);
     }
+    put_difference(alloc, store, width, plus, minus)
+}
+
+// A sum less another.
+fn put_difference(
+    alloc: Global,
+    store: &mut Store,
+    width: u8,
+    plus: &[Product],
+    minus: &[Product],
+) -> Result<Id, NoMemory>
+    requires low { 1 ≤ width }
+    requires high { width ≤ 128 }
+    requires plus { AreOfWords width (sum_at store.old plus.now) }
+    requires minus { AreOfWords width (sum_at store.old minus.now) }
+    ensures id { IfOk result (λ id. StandsAs store.new (Bits width) id
+        (binary BvSub (sum_term width (sum_at store.old plus.now))
+        (sum_term width (sum_at store.old minus.now)))) }
+    ensures grows { Grows store.old store.new }
+{
     let first = sum_term(alloc, store, width, plus)?;
     let second = sum_term(alloc, store, width, minus)?;
     put_words(alloc, store, Op::BvSub, width, first, second)

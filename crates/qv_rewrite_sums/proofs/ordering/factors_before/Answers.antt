@@ -13,7 +13,7 @@ returns-then-place-b c =
     let k = c.factors.place in
     let left : factors_before (map (tree_at trees) (drop k a)) (map (tree_at trees) (drop k b)) ≡ true =
     elim c.then-place-b.branch [
-      then-place-b-via-then-place-b w ↦ factors-longer trees a b k c.factors-test.true w.if-place-b.true
-    | then-place-b-via-else-place-b+then-comes_before w ↦ factors-decided trees a b k w.index-a-place.result w.index-b-place.result c.factors-test.true w.if-place-b.false w.index-a-place.is w.index-b-place.is (sym w.comes_before.ensures ∙ w.if-comes_before.true)
+      | then-place-b-via-then-place-b w ↦ factors-longer trees a b k c.factors-test.true w.if-place-b.true
+      | then-place-b-via-else-place-b+then-comes_before w ↦ factors-decided trees a b k w.index-a-place.result w.index-b-place.result c.factors-test.true w.if-place-b.false w.index-a-place.is w.index-b-place.is (sym w.comes_before.ensures ∙ w.if-comes_before.true)
     ] in
     sym (sym c.factors.invariant.same ∙ left)

@@ -1,5 +1,7 @@
-use Rattle.std.proofs.Common.{◌≡◌, ◌^◌, ◌<◌, ◌∷◌, [], ◌++◌, arith, ℕ, Some, List, ap, sym, ◌∙◌, subst}
-use Rattle.std.proofs.lemmas.List.Elements.{recursion_from_All}
+use Rattle.std.proofs.Common.{◌≡◌, ◌^◌, ◌<◌, ◌∷◌, [], ◌++◌, arith, ℕ, Vec, Some, List, ap, sym, ◌∙◌, subst}
+use Rattle.std.proofs.lemmas.List.{length-map}
+use Rattle.std.specs.declared.alloc.Global.{Global}
+use Rattle.qv_store.specs.Walks.{IsEarlier}
 use Rattle.qv_words.specs.declared.sort.Sort.{Sort}
 use Rattle.qv_words.specs.declared.sort.Sort.TheVariants.{Bool, Bits}
 use Rattle.qv_words.specs.Tree.{Tree, tree_sort}
@@ -17,7 +19,7 @@ use Rattle.qv_rewrite_sums.proofs.Rebuilding.{modulo-words, word-rebuilt, sides-
 use Rattle.qv_rewrite_sums.proofs.summing.equation.Goals as goal
 
 pub sum_of-first-requires : goal.sum_of-first-requires
-sum_of-first-requires c = record { found = c.requires.application.found; id = c.requires.application.kids_earlier 0 c.args.sides.a (omega arith) }
+sum_of-first-requires c = record { found = c.requires.application.found; id = subst (λ (n : ℕ). IsEarlier c.args.walk.now n c.args.sides.a) (length-map c.args.sums.now (λ (v : Vec Product Global). v.items)) (c.requires.application.kids_earlier 0 c.args.sides.a (omega arith)) }
 
 pub sum_of-second-requires : goal.sum_of-second-requires
-sum_of-second-requires c = record { found = c.requires.application.found; id = c.requires.application.kids_earlier 1 c.args.sides.b (omega arith) }
+sum_of-second-requires c = record { found = c.requires.application.found; id = subst (λ (n : ℕ). IsEarlier c.args.walk.now n c.args.sides.b) (length-map c.args.sums.now (λ (v : Vec Product Global). v.items)) (c.requires.application.kids_earlier 1 c.args.sides.b (omega arith)) }
