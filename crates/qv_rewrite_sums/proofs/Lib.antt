@@ -1,0 +1,10 @@
+pub mod Lists
+pub mod Held
+pub mod Alike
+pub mod Combined
+pub mod Ordered
+pub mod Fitting
+pub mod Built
+pub mod Found
+pub mod Rebuilding
+pub mod Odd
