@@ -5,6 +5,7 @@ use Rattle.qv_words.specs.Prenex.{negation}
 use Rattle.qv_words.specs.Problem.{Problem, Quantifier, Existential, Universal}
 use Rattle.qv_words.specs.Choice.{IsTrueAt}
 use Rattle.qv_words.specs.Linked.{Entry, blocks_of, entries_of, is_of}
+use Rattle.qv_rewrite_passes.specs.Passes.{IsBehind}
 
 -- how many blocks a problem has
 abbrev pub block_count : Problem → ℕ
@@ -37,10 +38,11 @@ AreDenied (e ∷ es) formulas =
     ((rest : List Tree) × (formulas ≡ negation e.region ∷ rest) × AreDenied es rest)
     ⊎ (IsCovered e es × AreDenied es formulas)
 
--- what may be asked: the query list, whole or without covered regions
+-- what may be asked: behind the last block the query list behind some passes, and at another level
+-- the query list, whole or without covered regions
 abbrev pub AreAsked : Problem → List Entry → Quantifier → ℕ → List Tree → Type 0
 AreAsked p entries winner level formulas =
-    (formulas ≡ query_list p entries winner level)
+    ((level ≡ block_count p + 1) × IsBehind (query_list p entries winner level) formulas)
     ⊎ ((level ≢ block_count p + 1) × AreDenied (entries_of level winner entries) formulas)
 
 -- what one more entry puts behind a query list

@@ -11,7 +11,7 @@ use Rattle.qv_cnf.specs.Derivation.{IsDerivation, additions}
 use Rattle.qv_meter.specs.Bases.{IsBaseOf}
 use Rattle.qv_meter.specs.Played.{IsPlayed, IsUndecided}
 use Rattle.qv_meter.specs.Queries.{AreAsked, IsQueryLevel}
-use Rattle.qv_meter.specs.Finals.{final_list, instances_of}
+use Rattle.qv_meter.specs.Finals.{IsFinalList, instances_of}
 
 -- what conflicts are charged to
 pub data Lane : Type 0 where
@@ -26,13 +26,13 @@ pub record IsQuery (p : Problem) (n : ℕ) (entries : List Entry) (winner : Quan
   pub asked : IsQueryLevel p level
   pub list : AreAsked p entries winner level formulas
 
--- the final list of entries with a winner
+-- a final list of entries with a winner
 pub record IsFinal (p : Problem) (n : ℕ) (entries : List Entry) (formulas : List Tree) : Type 0 where
   pub winner : Quantifier
   pub played : IsPlayed p entries
   pub won : HasWon p winner entries
   pub counted : instances_of p winner entries ≡ n
-  pub list : formulas ≡ final_list p winner entries
+  pub list : IsFinalList p winner entries formulas
 
 -- a list of formulas of these entries, whose refutation is charged to a lane
 abbrev pub IsListOf : Problem → ℕ → List Entry → Lane → List Tree → Type 0

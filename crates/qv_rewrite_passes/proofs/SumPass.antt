@@ -10,8 +10,8 @@ use Rattle.qv_words.proofs.Leaves.{HasValue}
 use Rattle.qv_words.proofs.Existing.{HasConstant, has_sort}
 use Rattle.qv_words.proofs.Passing.{Valued}
 use Rattle.qv_words.specs.Sums.{summed, sum_pass}
-use Rattle.qv_sums_laws.proofs.Meanings.{means-meaning, leaves-valued, over-meaning, Same, over-same, same-itself}
-use Rattle.qv_sums_laws.proofs.Representing.{summed-same}
+use Rattle.qv_rewrite_passes.proofs.Meanings.{means-meaning, leaves-valued, over-meaning, Same, over-same, same-itself}
+use Rattle.qv_rewrite_passes.proofs.Representing.{summed-same}
 
 valued : (c : List ℕ) (e : ℕ → Option ℕ) (t : Tree) → HasValues c e t → Valued c e t
 valued c e t h = (recursion_from_All (HasConstant c) (constants_of t) h.constants, recursion_from_All (HasValue e) (free_levels t) h.levels)

@@ -11,8 +11,8 @@ use Rattle.qv_words.proofs.Elements.{all-weaker}
 use Rattle.qv_words.proofs.Leaves.{both}
 use Rattle.qv_words.proofs.PassLeaves.{Among, leaves-trans}
 use Rattle.qv_words.specs.Sums.{Monomial, Polynomial, times, multiple, products, same_factors, reduced, plus, collected}
-use Rattle.qv_sums_laws.proofs.Meanings.{IsOver}
-use Rattle.qv_sums_laws.proofs.Building.{IsWord, Fits, AllFit}
+use Rattle.qv_rewrite_passes.proofs.Meanings.{IsOver}
+use Rattle.qv_rewrite_passes.proofs.Building.{IsWord, Fits, AllFit}
 
 -- all factors are words over these leaves
 abbrev pub AllWords : List (ℕ × Sort) → List (ℕ × Sort) → ℕ → Polynomial → Type 0

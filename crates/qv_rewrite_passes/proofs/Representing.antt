@@ -22,11 +22,11 @@ use Rattle.qv_words.proofs.InSort.{one_width-parts, two_widths-parts, two_alike-
 use Rattle.qv_words.proofs.Existing.{has_sort, lawful_sort}
 use Rattle.qv_words.proofs.Passing.{Valued, ValuedAll, one-sorts, two-sorts}
 use Rattle.qv_words.specs.Sums.{Polynomial, constant, atom, multiple, opposite, products, collected, number_of, shifted, combined, is_short, sum_or_atom, with_order, sum_term, is_subtracted, added, subtracted, term_of, is_odd, sides_equal, zero_from, is_zero, word_width, equation, bits_in, terms_of, rebuilt, applied, polynomial, polynomials, summed}
-use Rattle.qv_sums_laws.proofs.Congruent.{add-like, mul-like, rest-below, like, opposite-of, complement-of, zero-test, zero-test_turned, pred-times, more-whole}
-use Rattle.qv_sums_laws.proofs.Valuing.{value, value-append, value-multiple, value-products, value-atom, value-constant, value-collected, value-number, value-odd}
-use Rattle.qv_sums_laws.proofs.Meanings.{meaning, IsOver, Same, SameEach, same-itself, same-none, same-cons, same-apply, same-over, over-same, first-valued, others-valued}
-use Rattle.qv_sums_laws.proofs.Building.{AllFit, word-below, one-below, over-binary, meaning-binary, meaning-unary, word-sum, value-sum, fit-number, word-term, value-term, fit-with_order, fit-added, fit-subtracted, value-sides}
-use Rattle.qv_sums_laws.proofs.Collecting.{AllWords, fit-words, words-append, words-multiple, words-products, fit-collected, fit-first, fit-others}
+use Rattle.qv_rewrite_passes.proofs.Congruent.{add-like, mul-like, rest-below, like, opposite-of, complement-of, zero-test, zero-test_turned, pred-times, more-whole}
+use Rattle.qv_rewrite_passes.proofs.Valuing.{value, value-append, value-multiple, value-products, value-atom, value-constant, value-collected, value-number, value-odd}
+use Rattle.qv_rewrite_passes.proofs.Meanings.{meaning, IsOver, Same, SameEach, same-itself, same-none, same-cons, same-apply, same-over, over-same, first-valued, others-valued}
+use Rattle.qv_rewrite_passes.proofs.Building.{AllFit, word-below, one-below, over-binary, meaning-binary, meaning-unary, word-sum, value-sum, fit-number, word-term, value-term, fit-with_order, fit-added, fit-subtracted, value-sides}
+use Rattle.qv_rewrite_passes.proofs.Collecting.{AllWords, fit-words, words-append, words-multiple, words-products, fit-collected, fit-first, fit-others}
 
 -- a sum that has the value of a word
 pub record IsSumOf (t : Tree) (w : ℕ) (p : Polynomial) : Type 0 where

@@ -9,7 +9,7 @@ use Rattle.qv_words.specs.Tree.{Tree}
 use Rattle.qv_words.specs.Equality.{tree_eq}
 use Rattle.qv_words.proofs.Equals.{tree_eq-is}
 use Rattle.qv_words.specs.Sums.{Monomial, Polynomial, constant, atom, has_factors, times, multiple, products, without, same_factors, reduced, plus, collected, number_of, factors_before, comes_before, put_in, in_order, with_order, is_subtracted, added, subtracted, is_odd}
-use Rattle.qv_sums_laws.proofs.Congruent.{add-like, add-like_left, add-like_right, mul-like}
+use Rattle.qv_rewrite_passes.proofs.Congruent.{add-like, add-like_left, add-like_right, mul-like}
 
 abbrev pub product_value : (Tree → ℕ) → List Tree → ℕ
 product_value f [] = 1

@@ -21,9 +21,9 @@ use Rattle.qv_words.proofs.Equals.{test-refl}
 use Rattle.qv_words.proofs.Leaves.{both}
 use Rattle.qv_words.proofs.TwosComplement.{halves}
 use Rattle.qv_words.specs.Sums.{Monomial, Polynomial, has_factors, comes_before, factors_before, put_in, in_order, with_order, joined, product_term, sum_term, is_subtracted, added, subtracted, number_of, opposite_term, difference_term, term_from, term_of}
-use Rattle.qv_sums_laws.proofs.Congruent.{add-like, add-like_left, add-like_right, mul-like, rest-below, add-cancel, more-whole, complement}
-use Rattle.qv_sums_laws.proofs.Valuing.{product_value, monomial_value, value, number-value, value-with_order, value-parts, value-number, value-split, value-one}
-use Rattle.qv_sums_laws.proofs.Meanings.{meaning, HaveValues, IsOver, over-meaning}
+use Rattle.qv_rewrite_passes.proofs.Congruent.{add-like, add-like_left, add-like_right, mul-like, rest-below, add-cancel, more-whole, complement}
+use Rattle.qv_rewrite_passes.proofs.Valuing.{product_value, monomial_value, value, number-value, value-with_order, value-parts, value-number, value-split, value-one}
+use Rattle.qv_rewrite_passes.proofs.Meanings.{meaning, HaveValues, IsOver, over-meaning}
 
 -- a word over these leaves
 abbrev pub IsWord : List (ℕ × Sort) → List (ℕ × Sort) → ℕ → Tree → Type 0

@@ -1,0 +1,30 @@
+//! One pass over a list of formulas.
+
+ghost use Rattle.std.specs.Prelude.{◌≡◌, ◌<◌, All, IfOk, length};
+ghost use Rattle.qv_words.specs.Tree.{IsQuantifierFree};
+ghost use Rattle.qv_store.specs.Nodes.{tree_at};
+ghost use Rattle.qv_store.specs.Stores.{Grows};
+ghost use Rattle.qv_store.specs.Walks.{named};
+ghost use Rattle.qv_rewrite_passes.specs.Passes.{behind};
+
+use qv_rewrite_passes::Pass;
+use qv_store::{Id, NoMemory, Store};
+use std::alloc::Global;
+
+/// The formulas that a pass makes of these, which have no quantifiers. Where memory runs out the
+/// store may hold further terms.
+pub fn take(alloc: Global, store: &mut Store, pass: Pass, list: &[Id]) -> Result<Vec<Id>, NoMemory>
+    requires below { All (λ id. id < length store.old) list.now }
+    requires free { All (λ id. IsQuantifierFree (tree_at store.old id)) list.now }
+    ensures list { IfOk result (λ ids. named store.new ids.items
+        ≡ behind pass (named store.old list.now)) }
+    ensures below { IfOk result (λ ids. All (λ id. id < length store.new) ids.items) }
+    ensures free { IfOk result (λ ids. All (λ id. IsQuantifierFree (tree_at store.new id))
+        ids.items) }
+    ensures grows { Grows store.old store.new }
+{
+    match pass {
+        Pass::By(rule) => qv_rewrite::pass(alloc, store, rule, list),
+        Pass::Sum => sum_all(alloc, store, list),
+    }
+}

@@ -1,0 +1,4 @@
+-- what public contracts cite
+pub mod Passes
+pub mod Names
+pub mod PassLaws

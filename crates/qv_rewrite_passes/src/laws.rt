@@ -1,0 +1,15 @@
+//! What is known of passes: each function's contract is a law.
+
+ghost use Rattle.qv_words.specs.PassLaws.{SumsKeepValues};
+ghost use Rattle.qv_rewrite_passes.specs.PassLaws.{PassesStandFor};
+
+/// After the pass of sums each formula is sorted as before, over leaves that it had, and, under all
+/// values, means what it meant.
+pub fn sums_keep_values()
+    ensures { SumsKeepValues }
+{}
+
+/// So is each formula after any passes, one after the other.
+pub fn passes_stand_for()
+    ensures { PassesStandFor }
+{}

@@ -1,0 +1,7 @@
+//! The passes of certificates by name, and their law: each formula keeps its value.
+#![tactic(auto)]
+
+pub mod laws;
+mod pass;
+
+pub use pass::{Pass, name_of_pass, pass_named};
