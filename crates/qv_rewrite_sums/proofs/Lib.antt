@@ -7,4 +7,5 @@ pub mod Fitting
 pub mod Built
 pub mod Found
 pub mod Rebuilding
+pub mod Applying
 pub mod Odd
