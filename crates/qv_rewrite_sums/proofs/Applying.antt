@@ -1,6 +1,6 @@
 -- What the steps of applications, their arguments and their terms need of sums in a store.
-use Rattle.std.proofs.Common.{◌≡◌, ℕ, zero, suc, ◌^◌, ◌<◌, ◌==◌, Bool as Truth, true, false, Option, Some, None, List, [], ◌∷◌, ◌++◌, map, length, get_or, slice_get, refl, ap, sym, ◌∙◌, subst, arith}
-use Rattle.std.specs.Prelude.{Result, Ok, Err, IfOk, IsSome, All}
+use Rattle.std.proofs.Common.{◌≡◌, ℕ, zero, suc, ◌^◌, ◌<◌, ◌≤◌, ◌==◌, Bool as Truth, true, false, Option, Some, None, List, [], ◌∷◌, ◌++◌, map, length, get_or, slice_get, refl, ap, sym, ◌∙◌, subst, arith}
+use Rattle.std.specs.Prelude.{Result, Ok, Err, IfOk, IsSome, All, option_map}
 use Rattle.std.specs.List.{AllByRecursion, AllZip}
 use Rattle.std.proofs.lemmas.List.Elements.{All-from_recursion}
 use Rattle.smallvec.specs.SmallVec.{SmallVec}
@@ -22,7 +22,7 @@ use Rattle.qv_store.specs.Stores.{AreShared, StandsAt}
 use Rattle.qv_store.specs.Walks.{IsEarlier}
 use Rattle.qv_store.proofs.Passes.{walk-kids}
 use Rattle.qv_rewrite_sums.specs.declared.product.Product.{Product}
-use Rattle.qv_rewrite_sums.specs.Held.{sum_at, modulo, AreBelow, IsSumOf, IsNext, IsApplication}
+use Rattle.qv_rewrite_sums.specs.Held.{sum_at, modulo, short_raw, AreBelow, IsSumOf, IsNext, IsApplication}
 use Rattle.qv_rewrite_sums.proofs.Fitting.{bits-are, sum-fits, sums-fit, atom-stands, with-terms_sort}
 use Rattle.qv_rewrite_sums.proofs.Rebuilding.{IsTermOf, IsSingle, single, zip-terms, zip-below}
 
@@ -38,7 +38,7 @@ both-stand trees w (m ∷ p) [] h k = absurd (cc)
 both-stand trees w (m ∷ p) (n ∷ q) h k = refl
 
 -- what has neither one argument nor two is no sum
-pub none-combined : (o : Op) (w : ℕ) → combined o w [] ≡ None
+none-combined : (o : Op) (w : ℕ) → combined o w [] ≡ None
 none-combined BvAdd w = refl
 none-combined BvSub w = refl
 none-combined BvNeg w = refl
@@ -47,7 +47,7 @@ none-combined BvMul w = refl
 none-combined BvShl w = refl
 none-combined o w = refl
 
-pub many-combined : (o : Op) (w : ℕ) (p q r : Polynomial) (ps : List Polynomial) → combined o w (p ∷ q ∷ r ∷ ps) ≡ None
+many-combined : (o : Op) (w : ℕ) (p q r : Polynomial) (ps : List Polynomial) → combined o w (p ∷ q ∷ r ∷ ps) ≡ None
 many-combined BvAdd w p q r ps = refl
 many-combined BvSub w p q r ps = refl
 many-combined BvNeg w p q r ps = refl
@@ -55,6 +55,17 @@ many-combined BvNot w p q r ps = refl
 many-combined BvMul w p q r ps = refl
 many-combined BvShl w p q r ps = refl
 many-combined o w p q r ps = refl
+
+pub none-raw : (trees : List Tree) (o : Op) (w : ℕ) (kids : List ℕ) → length kids < 1 → None ≡ option_map (modulo (2 ^ w)) (short_raw (combined o w (polynomials (trees_at trees kids))))
+none-raw trees o w [] low = ap (λ (q : Option Polynomial). option_map (modulo (2 ^ w)) (short_raw q)) (sym (none-combined o w))
+none-raw trees o w (k ∷ ks) low = absurd (omega (arith, low))
+
+pub many-raw : (trees : List Tree) (o : Op) (w : ℕ) (kids : List ℕ) → 3 ≤ length kids → None ≡ option_map (modulo (2 ^ w)) (short_raw (combined o w (polynomials (trees_at trees kids))))
+many-raw trees o w [] many = absurd (omega (arith, many))
+many-raw trees o w (a ∷ []) many = absurd (omega (arith, many))
+many-raw trees o w (a ∷ b ∷ []) many = absurd (omega (arith, many))
+many-raw trees o w (a ∷ b ∷ k ∷ ks) many =
+    ap (λ (q : Option Polynomial). option_map (modulo (2 ^ w)) (short_raw q)) (sym (many-combined o w (polynomial (tree_at trees a)) (polynomial (tree_at trees b)) (polynomial (tree_at trees k)) (polynomials (trees_at trees ks))))
 
 -- the terms that stand in a store are sorted
 sorted-each : (trees : List Tree) (ids : List ℕ) → AreShared trees → AllByRecursion (λ n. n < length trees) ids → AreSortedBelow no_levels (trees_at trees ids)

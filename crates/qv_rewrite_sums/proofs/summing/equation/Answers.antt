@@ -25,6 +25,12 @@ sum_of-first-requires c = record { found = c.requires.application.found; id = su
 pub sum_of-second-requires : goal.sum_of-second-requires
 sum_of-second-requires c = record { found = c.requires.application.found; id = subst (λ (n : ℕ). IsEarlier c.args.walk.now n c.args.sides.b) (length-map c.args.sums.now (λ (v : Vec Product Global). v.items)) (c.requires.application.kids_earlier 1 c.args.sides.b (omega arith)) }
 
+pub difference-requires-clause-low : goal.difference-requires-clause-low
+difference-requires-clause-low c = (lawful_sort (tree_at c.args.store.now c.args.sides.a) no_levels (Bits c.args.sides.width) c.requires.application.sorted.0.0 c.requires.word).0
+
+pub difference-requires-clause-high : goal.difference-requires-clause-high
+difference-requires-clause-high c = (lawful_sort (tree_at c.args.store.now c.args.sides.a) no_levels (Bits c.args.sides.width) c.requires.application.sorted.0.0 c.requires.word).1
+
 pub collected-requires : goal.collected-requires
 collected-requires c =
     let trees = c.args.store.now in

@@ -10,8 +10,8 @@ use Rattle.qv_store.specs.Stores.{StandsAt}
 use Rattle.qv_store.proofs.Replacement.{if-ok}
 use Rattle.qv_rewrite_sums.specs.declared.product.Product.{Product}
 use Rattle.qv_rewrite_sums.specs.Held.{sum_at, AreOfWords}
-use Rattle.qv_rewrite_sums.proofs.Fitting.{bits-are, sum-fits, atom-stands}
-use Rattle.qv_rewrite_sums.proofs.Rebuilding.{single}
+use Rattle.qv_rewrite_sums.proofs.Fitting.{bits-are, sum-fits}
+use Rattle.qv_rewrite_sums.proofs.Applying.{truth-stands}
 use Rattle.qv_rewrite_sums.proofs.summing.term_of.Goals as goal
 
 pub word_term-requires : goal.word_term-requires
@@ -36,4 +36,8 @@ returns-in-Bits-clause-id c =
     if-ok c.word_term.result (λ made s. subst (StandsAt c.word_term.new.store made) whole s.stands) c.word_term.ensures.id
 
 pub returns-in-Bool-clause-id : goal.returns-in-Bool-clause-id
-returns-in-Bool-clause-id c = ?
+returns-in-Bool-clause-id c =
+    let t = tree_at c.args.store.now c.args.id in
+    let is : tree_sort t ≡ Some Bool = c.sort.ensures.sort ∙ ap Some c.in-Bool.is in
+    truth-stands c.args.store.now t c.args.sum.now c.index-sum-0.result c.as_slice.result.now c.index-as_slice-0.result (c.sort.ensures.shared.sorted c.args.id c.requires.id) is c.requires.sum
+    c.index-sum-0.is (c.as_slice.ensures ∙ ap (λ (m : Product). m.factors.items) (sym c.index-sum-0.is)) c.index-as_slice-0.is
