@@ -8,3 +8,4 @@ pub mod Built
 pub mod Found
 pub mod Rebuilding
 pub mod Odd
+pub mod Tests
