@@ -34,3 +34,6 @@ returns-in-Bits-clause-id c =
     let is : tree_sort t ≡ Some (Bits w) = c.sort.ensures.sort ∙ ap Some c.in-Bits.is in
     let whole : term_of w (sum_at c.args.store.now c.args.sum.now) ≡ summed t = ap (term_of w) c.requires.sum.sum ∙ ap (λ (n : ℕ). term_of n (polynomial t)) (sym (bits-are t (Bits w) is)) in
     if-ok c.word_term.result (λ made s. subst (StandsAt c.word_term.new.store made) whole s.stands) c.word_term.ensures.id
+
+pub returns-in-Bool-clause-id : goal.returns-in-Bool-clause-id
+returns-in-Bool-clause-id c = ?

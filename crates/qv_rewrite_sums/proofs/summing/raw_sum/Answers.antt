@@ -1,0 +1,31 @@
+use Rattle.std.proofs.Common.{◌≡◌, ◌^◌, ℕ, Option, None, List, [], ◌∷◌, ap, sym, ◌∙◌}
+use Rattle.std.specs.Prelude.{option_map}
+use Rattle.qv_words.specs.Sums.{Polynomial, combined, polynomial, polynomials}
+use Rattle.qv_store.specs.Nodes.{tree_at, trees_at}
+use Rattle.qv_store.proofs.Evaluation.{one-of, two-of}
+use Rattle.qv_store.proofs.Replacement.{if-ok}
+use Rattle.qv_rewrite_sums.specs.Held.{sum_at, modulo, short_raw}
+use Rattle.qv_rewrite_sums.proofs.summing.raw_sum.Goals as goal
+
+pub returns-in-len1 : goal.returns-in-len1
+returns-in-len1 c =
+    let trees = c.args.store.now in
+    let n = 2 ^ c.args.width in
+    let kids : c.args.kids.now ≡ c.a-item.result ∷ [] = one-of c.args.kids.now c.a-item.result c.in-len1.len_at_least c.in-len1.len_below c.a-item.is in
+    let same : sum_at trees c.sum_of.result.now ∷ [] ≡ polynomials (trees_at trees c.args.kids.now) =
+    ap (λ (p : Polynomial). p ∷ []) c.sum_of.ensures.sum ∙ ap (λ (ks : List ℕ). polynomials (trees_at trees ks)) (sym kids) in
+    if-ok c.of_one.result (λ made e. e ∙ ap (λ (ps : List Polynomial). option_map (modulo n) (short_raw (combined c.args.op c.args.width ps))) same) (c.of_one.ensures trees)
+
+pub returns-in-len2 : goal.returns-in-len2
+returns-in-len2 c =
+    let trees = c.args.store.now in
+    let n = 2 ^ c.args.width in
+    let kids : c.args.kids.now ≡ c.a-item.result ∷ c.b-item.result ∷ [] = two-of c.args.kids.now c.a-item.result c.b-item.result c.in-len2.len_at_least c.in-len2.len_below c.a-item.is c.b-item.is in
+    let same : sum_at trees c.sum_of.result.now ∷ sum_at trees c.sum_of-2.result.now ∷ [] ≡ polynomials (trees_at trees c.args.kids.now) =
+    ap (λ (p : Polynomial). p ∷ sum_at trees c.sum_of-2.result.now ∷ []) c.sum_of.ensures.sum
+    ∙ ap (λ (q : Polynomial). polynomial (tree_at trees c.a-item.result) ∷ q ∷ []) c.sum_of-2.ensures.sum
+    ∙ ap (λ (ks : List ℕ). polynomials (trees_at trees ks)) (sym kids) in
+    if-ok c.of_two.result (λ made e. e ∙ ap (λ (ps : List Polynomial). option_map (modulo n) (short_raw (combined c.args.op c.args.width ps))) same) (c.of_two.ensures trees)
+
+pub returns-in-empty : goal.returns-in-empty
+returns-in-empty c = ?
