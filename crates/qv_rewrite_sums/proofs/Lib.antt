@@ -9,3 +9,4 @@ pub mod Found
 pub mod Rebuilding
 pub mod Applying
 pub mod Odd
+pub mod Tests
