@@ -180,7 +180,7 @@ fn raw_sum(
             sum_of(store, walk, sums, *a),
             sum_of(store, walk, sums, *b),
         ),
-        [] | [_, _, _, ..] => Ok(None),
+        _ => Ok(None),
     }
 }
 

@@ -8,7 +8,7 @@ use Rattle.qv_store.proofs.Replacement.{if-ok}
 use Rattle.qv_rewrite_sums.specs.Held.{sum_at, modulo, short_raw}
 use Rattle.qv_rewrite_sums.proofs.Applying.{none-raw, many-raw}
 use Rattle.qv_rewrite_sums.proofs.summing.raw_sum.Goals as goal
-use Rattle.qv_rewrite_sums.proofs.summing.raw_sum.Goals.{then-kids-lt1, else-kids-lt1+else-kids-lt2+else-kids-lt3}
+use Rattle.qv_rewrite_sums.proofs.summing.raw_sum.Goals.{in_default-via-then-kids-lt1, in_default-via-else-kids-lt1+else-kids-lt2+else-kids-lt3}
 
 pub returns-in-len1 : goal.returns-in-len1
 returns-in-len1 c =
@@ -34,9 +34,9 @@ returns-in-len2 c =
     ∙ ap (λ (ks : List ℕ). polynomials (trees_at trees ks)) (sym kids) in
     if-ok c.of_two.result (λ made e. e ∙ ap (λ (ps : List Polynomial). option_map (modulo n) (short_raw (combined c.args.op c.args.width ps))) same) (c.of_two.ensures trees)
 
-pub returns-in-empty : goal.returns-in-empty
-returns-in-empty c =
-    elim c.in-empty-1.branch [
-      | then-kids-lt1 w ↦ none-raw c.args.store.now c.args.op c.args.width c.args.kids.now (omega (arith, ltb-true))
-      | else-kids-lt1+else-kids-lt2+else-kids-lt3 w ↦ many-raw c.args.store.now c.args.op c.args.width c.args.kids.now (omega (arith, ltb-false))
+pub returns-in_default : goal.returns-in_default
+returns-in_default c =
+    elim c.in_default.branch [
+      | in_default-via-then-kids-lt1 w ↦ none-raw c.args.store.now c.args.op c.args.width c.args.kids.now (omega (arith, ltb-true))
+      | in_default-via-else-kids-lt1+else-kids-lt2+else-kids-lt3 w ↦ many-raw c.args.store.now c.args.op c.args.width c.args.kids.now (omega (arith, ltb-false))
     ]
