@@ -93,19 +93,6 @@ truth-stands trees t p m ids n sorted is held at same own =
     let sum : summed t ≡ fit.0 = ap (λ (w : ℕ). term_of w (polynomial t)) (bits-are t Bool is) ∙ atom-stands (polynomial t) fit.0 fit.1 in
     record { below = subst (λ (k : ℕ). k < length trees) (sym number) low.0; tree = ap (tree_at trees) number ∙ one.tree ∙ sym sum }
 
--- a truth value's sum has one product, of one factor
-pub truth-single : (trees : List Tree) (t : Tree) (p : List Product) → IsSorted t → tree_sort t ≡ Some Bool → IsSumOf trees t p → length p ≡ 1
-truth-single trees t p sorted is held =
-    let fit = sum-fits t Bool sorted is in
-    ap length (single trees p fit.0 (held.sum ∙ fit.1)).products_are
-
-pub truth-factor : (trees : List Tree) (t : Tree) (p : List Product) (m : Product) → IsSorted t → tree_sort t ≡ Some Bool → IsSumOf trees t p → m ≡ get_or p 0 m → length m.factors.items ≡ 1
-truth-factor trees t p m sorted is held at =
-    let fit = sum-fits t Bool sorted is in
-    let one = single trees p fit.0 (held.sum ∙ fit.1) in
-    let product : m ≡ one.product = at ∙ ap (λ (ps : List Product). get_or ps 0 m) one.products_are in
-    ap (λ (k : Product). length k.factors.items) product ∙ ap length one.factors_are
-
 -- the difference of two sums that were found
 pub sides-raw : (trees : List Tree) (w : ℕ) (s t : Tree) (first second raw lent : List Product) → IsSumOf trees s first → IsSumOf trees t second → sum_at trees raw ≡ modulo (2 ^ w) (sum_at trees first ++ opposite w (sum_at trees second)) → lent ≡ raw
     → sum_at trees lent ≡ modulo (2 ^ w) (polynomial s ++ opposite w (polynomial t))
