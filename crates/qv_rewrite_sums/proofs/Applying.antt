@@ -1,16 +1,14 @@
 -- What the steps of applications, their arguments and their terms need of sums in a store.
-use Rattle.std.proofs.Common.{◌≡◌, ℕ, zero, suc, ◌^◌, ◌<◌, ◌≤◌, ◌==◌, Bool as Truth, true, false, Option, Some, None, List, [], ◌∷◌, ◌++◌, map, length, get_or, slice_get, refl, ap, sym, ◌∙◌, subst, arith}
+use Rattle.std.proofs.Common.{◌≡◌, ℕ, ◌^◌, ◌<◌, ◌≤◌, ◌==◌, false, Option, Some, None, List, [], ◌∷◌, ◌++◌, length, get_or, refl, ap, sym, ◌∙◌, subst, arith}
 use Rattle.std.specs.Prelude.{Result, Ok, Err, IfOk, IsSome, All, option_map}
 use Rattle.std.specs.List.{AllByRecursion, AllZip}
 use Rattle.std.proofs.lemmas.List.Elements.{All-from_recursion}
 use Rattle.smallvec.specs.SmallVec.{SmallVec}
-use Rattle.qv_words.specs.declared.sort.Sort.{Sort}
-use Rattle.qv_words.specs.declared.sort.Sort.TheVariants.{Bool, Bits}
+use Rattle.qv_words.specs.declared.sort.Sort.TheVariants.{Bool}
 use Rattle.qv_words.specs.declared.op.Op.{Op}
-use Rattle.qv_words.specs.declared.op.Op.TheVariants.{Equal, BvNot, BvNeg, BvAdd, BvSub, BvMul, BvShl}
+use Rattle.qv_words.specs.declared.op.Op.TheVariants.{BvNot, BvNeg, BvAdd, BvSub, BvMul, BvShl}
 use Rattle.qv_words.specs.declared.word.Word.{Word}
-use Rattle.qv_words.specs.Word.{word_sort, word_value}
-use Rattle.qv_words.specs.Tree.{Tree, Trees, Constant, Variable, Literal, Apply, ForAll, Exists, Nil, Cons, tree_sort}
+use Rattle.qv_words.specs.Tree.{Tree, Trees, Literal, Apply, tree_sort}
 use Rattle.qv_words.specs.Sorted.{IsSorted, AreSortedBelow, no_levels}
 use Rattle.qv_words.specs.Prenex.{binary}
 use Rattle.qv_words.specs.Sums.{Polynomial, atom, opposite, combined, sum_term, difference_term, term_of, terms_of, polynomial, polynomials, summed}
@@ -24,7 +22,7 @@ use Rattle.qv_store.proofs.Passes.{walk-kids}
 use Rattle.qv_rewrite_sums.specs.declared.product.Product.{Product}
 use Rattle.qv_rewrite_sums.specs.Held.{sum_at, modulo, short_raw, AreBelow, IsSumOf, IsNext, IsApplication}
 use Rattle.qv_rewrite_sums.proofs.Fitting.{bits-are, sum-fits, sums-fit, atom-stands, with-terms_sort}
-use Rattle.qv_rewrite_sums.proofs.Rebuilding.{IsTermOf, IsSingle, single, zip-terms, zip-below}
+use Rattle.qv_rewrite_sums.proofs.Rebuilding.{IsTermOf, single, zip-terms, zip-below}
 
 -- two things that hold of a value that is there
 pub if-ok_two : {A E : Type 0} (r : Result A E) {P Q R : A → Type 0} → ((x : A) → P x → Q x → R x) → IfOk r P → IfOk r Q → IfOk r R

@@ -1,6 +1,4 @@
-use Rattle.std.proofs.Common.{List, ap, sym, ◌∙◌, subst}
-use Rattle.qv_words.specs.Sums.{has_factors}
-use Rattle.qv_rewrite_sums.specs.declared.product.Product.{Product}
+use Rattle.std.proofs.Common.{ap, sym, ◌∙◌, subst}
 use Rattle.qv_rewrite_sums.specs.Held.{sum_at, AreOfWords}
 use Rattle.qv_rewrite_sums.proofs.Fitting.{others-fit}
 use Rattle.qv_rewrite_sums.proofs.building.opposite_term.Goals as goal

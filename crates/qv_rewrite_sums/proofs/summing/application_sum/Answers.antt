@@ -1,13 +1,10 @@
-use Rattle.std.proofs.Common.{◌≡◌, ◌≤◌, ℕ, Option, Some, None, List, Vec, length, ap, sym, ◌∙◌, subst}
+use Rattle.std.proofs.Common.{◌≡◌, ◌≤◌, ℕ, Some, None, Vec, length, ap, sym, ◌∙◌, subst}
 use Rattle.std.specs.declared.alloc.Global.{Global}
-use Rattle.std.specs.Prelude.{option_map, unwrap_or}
-use Rattle.qv_words.specs.declared.sort.Sort.{Sort}
-use Rattle.qv_words.specs.declared.sort.Sort.TheVariants.{Bool}
-use Rattle.qv_words.specs.Sort.{width_of}
-use Rattle.qv_words.specs.Tree.{Tree, Apply, tree_sort}
+use Rattle.std.specs.Prelude.{option_map}
+use Rattle.qv_words.specs.Tree.{Apply}
 use Rattle.qv_words.specs.Sorted.{no_levels}
 use Rattle.qv_words.proofs.Existing.{lawful_sort}
-use Rattle.qv_words.specs.Sums.{Polynomial, polynomials, bits_in}
+use Rattle.qv_words.specs.Sums.{polynomials, bits_in}
 use Rattle.qv_store.specs.Nodes.{tree_at, trees_at}
 use Rattle.qv_rewrite_sums.specs.declared.product.Product.{Product}
 use Rattle.qv_rewrite_sums.specs.Held.{sum_at, short_sum}

@@ -1,18 +1,16 @@
-use Rattle.std.proofs.Common.{◌≡◌, ◌^◌, ◌<◌, ◌∷◌, [], ◌++◌, arith, ℕ, Vec, Some, List, ap, sym, ◌∙◌, subst}
+use Rattle.std.proofs.Common.{◌^◌, ◌++◌, arith, ℕ, Vec, ap, sym, ◌∙◌, subst}
 use Rattle.std.proofs.lemmas.List.{length-map}
 use Rattle.std.specs.declared.alloc.Global.{Global}
 use Rattle.qv_store.specs.Walks.{IsEarlier}
-use Rattle.qv_words.specs.declared.sort.Sort.{Sort}
-use Rattle.qv_words.specs.declared.sort.Sort.TheVariants.{Bool, Bits}
-use Rattle.qv_words.specs.Tree.{Tree, tree_sort}
+use Rattle.qv_words.specs.declared.sort.Sort.TheVariants.{Bits}
 use Rattle.qv_words.specs.Sorted.{no_levels}
 use Rattle.qv_words.proofs.Existing.{lawful_sort}
-use Rattle.qv_words.specs.Sums.{Polynomial, polynomial, opposite, collected, is_zero}
+use Rattle.qv_words.specs.Sums.{polynomial, opposite, collected, is_zero}
 use Rattle.qv_store.specs.Nodes.{tree_at}
 use Rattle.qv_store.specs.Stores.{StandsAt}
 use Rattle.qv_store.proofs.Replacement.{if-ok}
 use Rattle.qv_rewrite_sums.specs.declared.product.Product.{Product}
-use Rattle.qv_rewrite_sums.specs.Held.{sum_at, modulo, HaveWords, AreOfWords}
+use Rattle.qv_rewrite_sums.specs.Held.{sum_at, HaveWords, AreOfWords}
 use Rattle.qv_rewrite_sums.proofs.Combined.{collected-rest}
 use Rattle.qv_rewrite_sums.proofs.Fitting.{collected-fits}
 use Rattle.qv_rewrite_sums.proofs.Rebuilding.{modulo-words, word-rebuilt, sides-words}

@@ -1,9 +1,9 @@
-use Rattle.std.proofs.Common.{◌≡◌, ◌^◌, ◌<◌, ◌++◌, ◌∷◌, [], ℕ, List, length, map, refl, ap, sym, ◌∙◌, subst}
+use Rattle.std.proofs.Common.{◌≡◌, ◌^◌, ◌++◌, [], ℕ, List, length, ap, sym, ◌∙◌, subst}
 use Rattle.qv_words.specs.declared.sort.Sort.{Sort}
 use Rattle.qv_words.specs.declared.sort.Sort.TheVariants.{Bool, Bits}
-use Rattle.qv_words.specs.Word.{word_sort, word_value}
+use Rattle.qv_words.specs.Word.{word_value}
 use Rattle.qv_words.specs.Tree.{Tree, Literal}
-use Rattle.qv_words.specs.Sums.{reduced, atom, polynomial}
+use Rattle.qv_words.specs.Sums.{reduced}
 use Rattle.qv_store.specs.Nodes.{tree_at}
 use Rattle.qv_rewrite_sums.specs.declared.product.Product.{Product}
 use Rattle.qv_rewrite_sums.specs.Held.{sum_at, IsSumOf}

@@ -1,10 +1,9 @@
-use Rattle.std.proofs.Common.{◌≡◌, ◌<◌, ℕ, List, Some, [], ◌∷◌, length, get_or, ap, sym, ◌∙◌, subst, arith}
-use Rattle.qv_words.specs.declared.sort.Sort.{Sort}
+use Rattle.std.proofs.Common.{◌≡◌, ℕ, Some, ap, sym, ◌∙◌, subst}
 use Rattle.qv_words.specs.declared.sort.Sort.TheVariants.{Bool, Bits}
-use Rattle.qv_words.specs.Tree.{Tree, tree_sort}
+use Rattle.qv_words.specs.Tree.{tree_sort}
 use Rattle.qv_words.specs.Sorted.{no_levels}
 use Rattle.qv_words.proofs.Existing.{lawful_sort}
-use Rattle.qv_words.specs.Sums.{Polynomial, polynomial, term_of, summed}
+use Rattle.qv_words.specs.Sums.{polynomial, term_of, summed}
 use Rattle.qv_store.specs.Nodes.{tree_at}
 use Rattle.qv_store.specs.Stores.{StandsAt}
 use Rattle.qv_store.proofs.Replacement.{if-ok}

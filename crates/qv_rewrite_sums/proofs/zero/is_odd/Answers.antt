@@ -1,4 +1,4 @@
-use Rattle.std.proofs.Common.{◌≡◌, ◌%◌, ◌==◌, Bool, not, ◌&&◌, refl, ap, sym, ◌∙◌}
+use Rattle.std.proofs.Common.{◌%◌, ◌==◌, Bool, not, ◌&&◌, refl, ap, sym, ◌∙◌}
 use Rattle.qv_rewrite_sums.proofs.Odd.{total}
 use Rattle.qv_rewrite_sums.proofs.Tests.{odd-tests}
 use Rattle.qv_rewrite_sums.proofs.zero.is_odd.Goals as goal
