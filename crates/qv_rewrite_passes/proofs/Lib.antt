@@ -5,4 +5,6 @@ pub mod Building
 pub mod Collecting
 pub mod Representing
 pub mod SumPass
+pub mod Behind
 mod SumsExample
+mod BehindExample
