@@ -288,10 +288,10 @@ def asked_all(rule, terms):
 
 def cases(chosen):
     x, y, p, q = "v0:8", "v1:8", "v0:bool", "v1:bool"
-    note("the rules by their names")
+    note("the passes by their names")
     names = list(map(name_of, RULES))
-    for name in [*names, "", "melt", "Fold", "fol", "folds", "not_not", "mul-two", "-"]:
-        LINES.append((f"rule {name}", name if name in names else "none"))
+    for name in [*names, "sum", "", "su", "sums", "melt", "Fold", "fol", "folds", "not_not", "mul-two", "-"]:
+        LINES.append((f"name {name}", name if name in names or name == "sum" else "none"))
     note("each rule, where it fits and where it doesn't")
     chosen_terms = [
         ("=", [x, x]), ("=", [x, y]), ("=", [p, p]), ("not", [("not", [p])]), ("bvnot", [("bvnot", [x])]),
@@ -392,6 +392,9 @@ def main():
     if "--check" in sys.argv:
         check(chosen)
         return
+    from sum_cases import rows
+    LINES.append(("", None))
+    LINES.extend(rows(random.Random(1000)))
     (HERE / "stdin").write_text("".join(f"{line}\n" for line, _ in LINES))
     (HERE / "stdout").write_text("".join(f"{line if answer is None else answer}\n" for line, answer in LINES))
     print(f"{len(ASKED)} terms, {len(LINES)} lines")

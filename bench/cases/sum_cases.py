@@ -1,8 +1,7 @@
 #!/usr/bin/env python3
-"""Writes the cases of crates/qv_rewrite_sums_cases (stdin) and what must come (stdout), by the pass of sums as
-written from its rules: terms as sums of products modulo 2^w.
+"""The cases of the pass of sums, as written from its rules: terms as sums of products modulo 2^w.
+bench/cases/rewrite_cases.py writes them with its own.
 
-    bench/cases/sum_cases.py            writes both files
     bench/cases/sum_cases.py --check    compares the examples, and values of random terms before and after
     bench/cases/sum_cases.py --show     prints what the examples become
 
@@ -11,12 +10,9 @@ to a pair of its coefficient and the factors as they first came.
 """
 import random
 import sys
-from pathlib import Path
 
 from rewrite_cases import SORTS, at_point, literal, random_known, random_term, show, sort_of, value_of
 from word_cases import evaluate
-
-HERE = Path(__file__).resolve().parents[2] / "crates" / "qv_rewrite_sums_cases"
 
 MOST_RAW, MOST_MONOMIALS, MOST_FACTORS = 48, 24, 4
 
@@ -262,7 +258,7 @@ def read(text):
 
 
 def sum_row(t):
-    return f"sum {show(t)}", show(summed(t))
+    return f"pass sum {show(t)}", show(summed(t))
 
 
 def at_row(chosen, t):
@@ -271,7 +267,7 @@ def at_row(chosen, t):
     sides = [" ".join(literal(of, v) for of, v in side) for side in words]
     made = summed(t)
     values = " ".join(literal(*evaluate(u, *words)) for u in [t, made])
-    return f"at {sides[0]} | {sides[1]} | {show(t)}", f"{show(made)} {values}"
+    return f"at sum {sides[0]} | {sides[1]} | {show(t)}", f"{show(made)} {values}"
 
 
 def twice(op, t, times):
@@ -284,14 +280,14 @@ def twice(op, t, times):
 def rows(chosen):
     yield "# the examples", None
     for text, made in EXAMPLES:
-        yield f"sum {text}", made
+        yield f"pass sum {text}", made
     yield "", None
     yield "# shared terms, each joined with itself: products stay below 4 factors, and powers of two of them are 0", None
     for t in [twice("bvadd", "v0:8", 9), twice("bvmul", "v0:8", 4), twice("bvadd", ("bvadd", ["v0:8", "v1:8"]), 6)]:
         yield sum_row(t)
     yield "", None
     yield "# terms without rows", None
-    for text in ["sum", "sum v0:8 v1:8", "sum v0:8 v1:4 bvadd", "sum bvadd", "sums v0:8", "at | v0:8"]:
+    for text in ["pass sum v0:8 v1:8", "pass sum v0:8 v1:4 bvadd", "pass sum bvadd", "pass sums v0:8", "at sum | v0:8"]:
         yield text, "bad case"
     yield "", None
     yield "# random terms", None
@@ -311,11 +307,6 @@ def main():
             print(f"{text}  ->  {show(summed(read(text)))}")
     elif "--check" in sys.argv:
         check(random.Random(1000))
-    else:
-        lines = list(rows(random.Random(1000)))
-        (HERE / "stdin").write_text("".join(f"{line}\n" for line, _ in lines))
-        (HERE / "stdout").write_text("".join(f"{line if answer is None else answer}\n" for line, answer in lines))
-        print(f"{len(lines)} lines")
 
 
 if __name__ == "__main__":

@@ -8,7 +8,9 @@ use qv_cases_rows::{Answer, Cases, Words};
 use qv_cases_terms::{
     is_plain, say_term, say_terms, say_word, term, terms, value, words as parse_words,
 };
-use qv_rewrite::{name_of_rule, pass, rule_named, simplify};
+use qv_rewrite::simplify;
+use qv_rewrite_lists::take;
+use qv_rewrite_passes::{name_of_pass, pass_named};
 use qv_store::{Id, Store};
 use qv_words::Word;
 use std::alloc::Global;
@@ -24,7 +26,7 @@ impl Cases for RewriteCases {
     fn answer(&mut self, words: &mut Words<'_>, out: &mut Answer) {
         let mut store = Store::new(self.alloc);
         match words.next() {
-            "rule" => rule_row(out, words.next()),
+            "name" => name_row(out, words.next()),
             "pass" => pass_row(self.alloc, out, &mut store, words),
             "simplify" => simplify_row(self.alloc, out, &mut store, words.rest()),
             "at" => at_row(self.alloc, out, &mut store, words),
@@ -33,15 +35,15 @@ impl Cases for RewriteCases {
     }
 }
 
-// `rule NAME`: the name of the rule that has this name, or `none`
-fn rule_row(out: &mut Answer, name: &str) {
-    match rule_named(name.as_bytes()) {
-        Some(rule) => out.give(str::from_utf8(name_of_rule(rule)).ok()),
+// `name NAME`: the name of the pass that has this name, or `none`
+fn name_row(out: &mut Answer, name: &str) {
+    match pass_named(name.as_bytes()) {
+        Some(pass) => out.give(str::from_utf8(name_of_pass(pass)).ok()),
         None => out.say("none"),
     }
 }
 
-// `pass RULE TERMS`: terms with a semicolon between them, or `no terms`.
+// `pass NAME TERMS`: terms with a semicolon between them, or `no terms`.
 fn pass_row(alloc: Global, out: &mut Answer, store: &mut Store, words: &mut Words<'_>) {
     let name = words.next();
     match passed(alloc, store, name, words.rest()) {
@@ -51,10 +53,10 @@ fn pass_row(alloc: Global, out: &mut Answer, store: &mut Store, words: &mut Word
 }
 
 fn passed(alloc: Global, store: &mut Store, name: &str, text: &str) -> Option<Vec<Id>> {
-    let rule = rule_named(name.as_bytes())?;
+    let pass = pass_named(name.as_bytes())?;
     let ids = terms(alloc, store, text)?;
     let plain = plain_terms(alloc, store, &ids)?;
-    pass(alloc, store, rule, &plain).ok()
+    take(alloc, store, pass, &plain).ok()
 }
 
 // The terms again, where each is of the store and has no quantifiers.
@@ -93,7 +95,7 @@ fn simple(alloc: Global, store: &mut Store, id: Id) -> Option<Id> {
     simplify(alloc, store, id).ok()
 }
 
-// `at RULE CONSTANTS | PLACES | TERM`, and the same of `simplify`: the term that is made, and the
+// `at NAME CONSTANTS | PLACES | TERM`, and the same of `simplify`: the term that is made, and the
 // value before and after.
 fn at_row(alloc: Global, out: &mut Answer, store: &mut Store, words: &mut Words<'_>) {
     let name = words.next();
@@ -131,14 +133,14 @@ fn say_at(alloc: Global, out: &mut Answer, store: &mut Store, name: &str, point:
     }
 }
 
-// What a rule's pass makes of a term, or what simplifying it makes.
+// What a pass makes of a term, or what simplifying it makes.
 fn made_by(alloc: Global, store: &mut Store, name: &str, id: Id) -> Option<Id> {
     if name == "simplify" {
         return simple(alloc, store, id);
     }
-    let rule = rule_named(name.as_bytes())?;
+    let pass = pass_named(name.as_bytes())?;
     let plain = plain_terms(alloc, store, &[id])?;
-    let made = pass(alloc, store, rule, &plain).ok()?;
+    let made = take(alloc, store, pass, &plain).ok()?;
     made.first().copied()
 }
 
