@@ -133,6 +133,68 @@ def invertibility():
             yield f"inverse {name} {width}", script("BV", [], [f"(forall ((s {sort}) (t {sort})) {both})"])
 
 
+# --- reductions: what two forms of a term are, told by a pass or by closure more than by a search --------------------
+
+EQUAL = {
+    "distributed": ("(bvmul x (bvadd y z))", "(bvadd (bvmul x y) (bvmul x z))", [6, 8, 12, 16, 32, 64]),
+    "associated": ("(bvmul (bvmul x y) z)", "(bvmul x (bvmul y z))", [6, 8, 16, 32, 64]),
+    "commuted": ("(bvmul x y)", "(bvmul y x)", [6, 8, 12, 16, 32, 64]),
+    "negated-factor": ("(bvmul (bvneg x) y)", "(bvneg (bvmul x y))", [6, 8, 16, 32, 64]),
+    "square-of-sum": ("(bvmul (bvadd x y) (bvadd x y))", "(bvadd (bvmul x x) (bvadd (bvmul 2 (bvmul x y)) (bvmul y y)))", [6, 8, 16, 32]),
+    "difference-of-squares": ("(bvmul (bvadd x y) (bvsub x y))", "(bvsub (bvmul x x) (bvmul y y))", [6, 8, 16, 32]),
+    "cube": ("(bvmul (bvadd x 1) (bvmul (bvadd x 1) (bvadd x 1)))", "(bvadd (bvmul x (bvmul x x)) (bvadd (bvmul 3 (bvmul x x)) (bvadd (bvmul 3 x) 1)))", [6, 8, 16, 32]),
+    "horner": ("(bvadd (bvmul (bvadd (bvmul (bvadd x 3) x) y) x) z)", "(bvadd (bvmul x (bvmul x x)) (bvadd (bvmul 3 (bvmul x x)) (bvadd (bvmul y x) z)))", [8, 16, 32, 64]),
+    "three-terms": ("(bvadd x (bvadd y z))", "(bvadd (bvadd z x) y)", [8, 16, 32, 64]),
+    "four-terms": ("(bvadd (bvadd x y) (bvsub z 7))", "(bvsub (bvadd z (bvadd y x)) 7)", [8, 16, 32, 64]),
+    "ten-times": ("(bvmul x 10)", "(bvadd (bvshl x 3) (bvshl x 1))", [8, 16, 32, 64]),
+    "minus-eight-times": ("(bvmul x (bvneg 8))", "(bvneg (bvshl x 3))", [8, 16, 32, 64]),
+    "complement": ("(bvadd (bvnot x) (bvnot y))", "(bvsub (bvnot (bvadd x y)) 1)", [8, 16, 32, 64]),
+    "absolute": ("(ite (bvslt x 0) (bvneg x) x)", "(bvsub (bvxor x (bvashr x T)) (bvashr x T))", [8, 16, 32, 64]),
+    "absolute-of-negated": ("(ite (bvslt x 0) (bvneg x) x)", "(ite (bvslt (bvneg x) 0) x (bvneg x))", [8, 16, 32, 64]),
+    "average": ("(bvadd (bvand x y) (bvlshr (bvxor x y) 1))", "(bvsub (bvor x y) (bvsub (bvxor x y) (bvlshr (bvxor x y) 1)))", [8, 16, 32, 64]),
+    "or-and-sum": ("(bvadd (bvor x y) (bvand x y))", "(bvadd x y)", [8, 16, 32, 64]),
+    "remainder-of-negated": ("(ite (= x (bvneg x)) x (bvsrem (bvneg x) y))", "(ite (= x (bvneg x)) x (bvneg (bvsrem x y)))", [4, 6, 8]),
+    "remainder-by-five": ("(bvurem x 5)", "(bvsub x (bvmul 5 (bvudiv x 5)))", [8, 16, 32]),
+    "gray": ("(bvxor (bvxor x (bvlshr x 1)) (bvlshr y 1))", "(bvxor (bvlshr (bvxor x y) 1) x)", [8, 16, 32, 64]),
+}
+
+
+def parity(width, order):
+    bits_of = [f"((_ extract {k} {k}) x)" for k in order]
+    text = bits_of[0]
+    for bit in bits_of[1:]:
+        text = f"(bvxor {text} {bit})"
+    return text
+
+
+def barrel(width):
+    """x shifted left by y, a stage for each bit of y below the width's."""
+    text, stages = "x", width.bit_length() - 1
+    for k in range(stages):
+        text = f"(ite (= ((_ extract {k} {k}) y) #b1) (bvshl {text} {number(1 << k, width)}) {text})"
+    return text
+
+
+def put(text, width):
+    words = text.replace("(", " ( ").replace(")", " ) ").split()
+    return " ".join(number(int(word), width) if word.isdigit() else number(width - 1, width) if word == "T" else word for word in words)
+
+
+def reductions():
+    for name, (left, right, widths) in EQUAL.items():
+        for width in widths:
+            declared = [(letter, bits(width)) for letter in "xyz"]
+            yield f"reduce {name} {width}", script("QF_BV", declared, [f"(distinct {put(left, width)} {put(right, width)})"])
+    for width in [16, 24, 32, 48, 64]:
+        forth = list(range(width))
+        other = forth[::2] + forth[1::2][::-1]
+        yield f"reduce parity {width}", script("QF_BV", [("x", bits(width))], [f"(distinct {parity(width, forth)} {parity(width, other)})"])
+    for width in [8, 16, 32, 64]:
+        declared = [("x", bits(width)), ("y", bits(width))]
+        yield f"reduce barrel {width}", script("QF_BV", declared, [f"(bvult y {number(width, width)})", f"(distinct {barrel(width)} (bvshl x y))"])
+        yield f"reduce odd {width}", script("QF_BV", declared, [f"(= (bvadd (bvmul {number(2, width)} x) {number(1, width)}) (bvmul {number(6, width)} y))"])
+
+
 # --- bounded model checking ----------------------------------------------------------------------------------------
 
 
@@ -195,5 +257,5 @@ def written():
 
 
 def problems():
-    for family in [worked, peephole, invertibility, models, pigeons, generated, written]:
+    for family in [worked, peephole, invertibility, reductions, models, pigeons, generated, written]:
         yield from family()
