@@ -41,7 +41,7 @@ lrat-same false many o = refl
 at-end : (task : Task) (answer : Answer) (l : PlainListed) (line : CertLine) → ends_nodes line ≡ true
     → at_place task (Listing answer l) line ≡ leaving task answer l line (fits_version task.version line) (is_missing task.problem answer l)
 unfolding leaving
-at-end task answer l (Rewrite rule) e = refl
+at-end task answer l (Rewrite p) e = refl
 at-end task answer l Lrat e = lrat-same (is_missing task.problem answer l) (has_too_many (first_list task.problem answer l)) (refuting answer (first_list task.problem answer l))
 at-end task answer l (Header v) e = absurd cc
 at-end task answer l (Check number a) e = absurd cc

@@ -34,7 +34,7 @@ use Rattle.qv_check_lines.proofs.Rewritten.{is-refusal}
 node-does : (task : Task) (answer : Answer) (l : PlainListed) (line : CertLine) → ends_nodes line ≡ false
     → at_place task (Listing answer l) line ≡ unless ((kind.Form, not (belongs answer line)) ∷ faults_of task.problem l line) (GoesOn (Listing answer (listing task.problem l line)))
 node-does task answer l Lrat e = absurd cc
-node-does task answer l (Rewrite rule) e = absurd cc
+node-does task answer l (Rewrite p) e = absurd cc
 node-does task answer l (Header version) e = refl
 node-does task answer l (Check number a) e = refl
 node-does task answer l (VariableNode node place) e = refl

@@ -10,15 +10,15 @@ use Rattle.qv_check_lines.specs.declared.lines.Numbered.{Numbered}
 use Rattle.qv_check_lines.specs.Judging.{ComesTo, IsNextLine}
 use Rattle.qv_check_lines.specs.Refusing.{IsRefusal}
 
--- a rule or the refutation comes behind the nodes
+-- a pass or the refutation comes behind the nodes
 abbrev pub ends_nodes : CertLine → Bool
 ends_nodes Lrat = true
-ends_nodes (Rewrite rule) = true
+ends_nodes (Rewrite p) = true
 ends_nodes line = false
 
 -- a certificate of this version may have the line
 abbrev pub fits_version : ℕ → CertLine → Bool
-fits_version version (Rewrite rule) = version == 2
+fits_version version (Rewrite p) = version == 2
 fits_version version line = true
 
 -- the line is listed, or the section ends

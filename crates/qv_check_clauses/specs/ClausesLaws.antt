@@ -12,4 +12,4 @@ use Rattle.qv_check_lines.specs.Refuted.{refuted_in}
 abbrev pub ClausesAreRefuted : Type 0
 ClausesAreRefuted =
     (task : Task) (answer : Answer) (texts : List (List ℕ)) (p : IsProof task answer texts) →
-    refuted_in task texts ≡ clauses_of (clause_list (last_list task.problem answer p.given p.rules))
+    refuted_in task texts ≡ clauses_of (clause_list (last_list task.problem answer p.given p.passes))

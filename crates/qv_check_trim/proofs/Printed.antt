@@ -127,7 +127,7 @@ proof-printed task answer lines h p =
     let range = parts-of IsCertLine m.first m.second (subst InRange m.xs_are h) in
     record {
       given = p.given;
-      rules = p.rules;
+      passes = p.passes;
       steps = p.steps;
       outer = map line_text m.first;
       inner = map line_text m.second;
