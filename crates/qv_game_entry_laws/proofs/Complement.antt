@@ -1,7 +1,7 @@
 -- An entry whose region is what lies outside regions of the other player.
-use Rattle.std.proofs.Common.{◌≡◌, ℕ, zero, suc, ◌+◌, ◌<◌, Bool, Some, Option, List, [], ◌∷◌, ◌++◌, map, refl, sym, ◌∙◌, subst, inr, slice_get, length, arith}
+use Rattle.std.proofs.Common.{◌≡◌, ℕ, zero, suc, ◌+◌, ◌<◌, Bool, true, Some, Option, List, [], ◌∷◌, ◌++◌, map, refl, sym, ◌∙◌, subst, inr, slice_get, length, arith}
 use Rattle.std.specs.Prelude.{IsSomeAnd, MatchBool}
-use Rattle.std.specs.List.{AllZip, AllByRecursion}
+use Rattle.std.specs.List.{AllByRecursion}
 use Rattle.std.proofs.lemmas.List.Elements.{All-from_recursion, recursion_from_All}
 use Rattle.qv_words.specs.declared.sort.Sort.{Sort}
 use Rattle.qv_words.specs.declared.sort.Sort.TheVariants.{Bool as BoolSort}
@@ -12,9 +12,11 @@ use Rattle.qv_words.specs.Sorted.{HasValues, free_levels}
 use Rattle.qv_words.specs.Meaning.{Means}
 use Rattle.qv_words.specs.Prenex.{binary, negation}
 use Rattle.qv_words.specs.PassLaws.{IsPlain}
+use Rattle.qv_words.specs.Gate.{clauses_value}
+use Rattle.qv_words.specs.Clauses.{cnf}
 use Rattle.qv_words.specs.Problem.{Problem, conjunction, conjunction_with, other}
 use Rattle.qv_words.specs.Choice.{IsTrueAt}
-use Rattle.qv_words.specs.Linked.{Block, Entry, IsComplement, IsForced, IsLinked, IsOwned, IsPlaceBelow, IsRival, LinksToOne, MeetsBlock, blocks_of, block_numbered, entries_named, linked_regions, outside_of, places_below}
+use Rattle.qv_words.specs.Linked.{Block, Entry, IsComplement, IsForced, IsLinked, IsOwned, IsPlaceBelow, IsRival, LinksToOne, MeetsBlock, blocks_of, block_numbered, entries_named, linked_regions, places_below}
 use Rattle.qv_words.specs.GameLaws.{IsProblem}
 use Rattle.qv_words.proofs.Conjunctions.{both-true}
 use Rattle.qv_words.proofs.Elements.{all-both_weaker, all-weaker, get-before, some-and, to-some}
@@ -24,7 +26,7 @@ use Rattle.qv_game_laws.proofs.Each.{each-entry}
 use Rattle.qv_game_laws.proofs.Points.{below-is, below-next, IsPoint}
 use Rattle.qv_game_laws.proofs.Steps.{before, Before, point-values, longer, typed-length, negation-of, region-of, has-values}
 use Rattle.qv_game_laws.proofs.GameSteps.{level-of}
-use Rattle.qv_game_entry_laws.specs.BuildingLaws.{IsComplementBy, ComplementMayCome, NoModelLeavesNone}
+use Rattle.qv_game_entry_laws.specs.BuildingLaws.{IsComplementBy, ComplementMayCome, NoModelLeavesNone, RegionLeavesNone}
 use Rattle.qv_game_entry_laws.proofs.Equations.{and-of}
 use Rattle.qv_game_entry_laws.proofs.Failed.{formulas-of}
 use Rattle.qv_game_entry_laws.proofs.Forced.{found, negation-true, other-owner, regions-of}
@@ -127,27 +129,33 @@ complement-may-come p earlier e block formulas hp linked w =
           (complement-forced p earlier e block formulas index.0 hp linked w index.1 index.2));
     }
 
--- values that make the formulas true at a point of the region would give a model of all the clauses
-pub no-model-leaves-none : ClausesTheorem → NoModelLeavesNone
-no-model-leaves-none theorem p earlier e block formulas hp linked at_level links denied c no_model point values typed each here holds =
-    let index = level-of (blocks_of p.prefix) e.level block at_level in
-    let first : places_below (blocks_of p.prefix) e.level ≡ before p index.0 = below-is (blocks_of p.prefix) e.level index.0 index.1 in
-    let at_point : IsPoint p.prefix (before p index.0) point = subst (λ (n : ℕ). IsPoint p.prefix n point) first typed in
-    let size : length point ≡ before p index.0 = typed-length p index.0 point at_point in
-    let next : before p (suc index.0) ≡ before p index.0 + length block.sorts = below-next (blocks_of p.prefix) index.0 block index.2 in
-    let P = Before p (before p (suc index.0)) in
+-- values that make formulas over the places up to the block true at a point of the region would give
+-- a model of all the clauses
+pub none-without-model : ClausesTheorem → (p : Problem) (earlier : List Entry) (e : Entry) (block : Block) (formulas : List Tree) (j : ℕ) → IsLinked p earlier → e.level ≡ suc j → slice_get (blocks_of p.prefix) j ≡ Some block → AllByRecursion (IsOf (Before p (before p (suc j))) BoolSort) formulas → IsComplement earlier e → ((v : ℕ → Bool) → clauses_value v (cnf (e.region ∷ formulas)) ≡ true → ⊥) → RegionLeavesNone p e block formulas
+none-without-model theorem p earlier e block formulas j linked level at formulas_of c no_model point values typed each here holds =
+    let first : places_below (blocks_of p.prefix) e.level ≡ before p j = below-is (blocks_of p.prefix) e.level j level in
+    let at_point : IsPoint p.prefix (before p j) point = subst (λ (n : ℕ). IsPoint p.prefix n point) first typed in
+    let size : length point ≡ before p j = typed-length p j point at_point in
+    let next : before p (suc j) ≡ before p j + length block.sorts = below-next (blocks_of p.prefix) j block at in
+    let P = Before p (before p (suc j)) in
     let z = slice_get (point ++ values) in
     let all = e.region ∷ formulas in
-    let values-at = point-values p (before p (suc index.0)) (point ++ values) (longer p index.0 block point values index.2 at_point each) in
-    let own = complement-of p earlier e index.0 linked index.1 c in
-    let region : IsOf P BoolSort e.region = (over-more (Before p (before p index.0)) P (λ l s h. (let low = h.0 in omega (arith, low, next), h.1)) e.region own.0, own.1) in
-    let of : AllByRecursion (IsOf P BoolSort) all = (region, formulas-of P formulas (linked_regions p earlier e) denied (regions-of p earlier e index.0 hp linked links index.1)) in
+    let values-at = point-values p (before p (suc j)) (point ++ values) (longer p j block point values at at_point each) in
+    let own = complement-of p earlier e j linked level c in
+    let region : IsOf P BoolSort e.region = (over-more (Before p (before p j)) P (λ l s h. (let low = h.0 in omega (arith, low, next), h.1)) e.region own.0, own.1) in
+    let of : AllByRecursion (IsOf P BoolSort) all = (region, formulas_of) in
     let plain = All-from_recursion IsPlain all (all-weaker (IsOf P BoolSort) IsPlain all (λ t h. record { sorted = over-sorted P t h.0; free = over-free P t h.0 }) of) in
     let bool = All-from_recursion (λ t. tree_sort t ≡ Some BoolSort) all (all-weaker (IsOf P BoolSort) (λ t. tree_sort t ≡ Some BoolSort) all (λ t h. h.1) of) in
     let valued = All-from_recursion (HasValues [] z) all (all-weaker (IsOf P BoolSort) (HasValues [] z) all (λ t h. has-values P t z h.0 values-at) of) in
     let there : IsTrueAt (point ++ values) e.region =
-    over-agree (Before p (before p index.0)) e.region (slice_get point) z 1 own.0
+    over-agree (Before p (before p j)) e.region (slice_get point) z 1 own.0
     (λ l s h. sym (get-before point values l (let low = h.0 in omega (arith, low, size)))) here in
     let each_true = All-from_recursion (IsTrueAt (point ++ values)) all (there, recursion_from_All (IsTrueAt (point ++ values)) formulas holds) in
     let model = (theorem all [] z plain bool valued).0 each_true in
     no_model model.0 model.2
+
+pub no-model-leaves-none : ClausesTheorem → NoModelLeavesNone
+no-model-leaves-none theorem p earlier e block formulas hp linked at_level links denied c no_model =
+    let index = level-of (blocks_of p.prefix) e.level block at_level in
+    let of = formulas-of (Before p (before p (suc index.0))) formulas (linked_regions p earlier e) denied (regions-of p earlier e index.0 hp linked links index.1) in
+    none-without-model theorem p earlier e block formulas index.0 linked index.1 index.2 of c no_model

@@ -2,7 +2,7 @@
 use Rattle.std.proofs.Common.{◌≡◌, ℕ, zero, suc, ◌+◌, ◌-◌, ◌*◌, ◌/◌, ◌%◌, ◌<◌, ◌≤◌, Bool, true, false, not, Some, List, [], ◌∷◌, ◌++◌, refl, sym, ap, ◌∙◌, subst, inl, inr, slice_get, length, arith}
 use Rattle.std.specs.Prelude.{◌==◌, if◌then◌else◌, slice_index, Contains}
 use Rattle.std.specs.Int.{bit_at}
-use Rattle.std.specs.List.{AllZip, AllByRecursion, list_all}
+use Rattle.std.specs.List.{All, AllZip, AllByRecursion, list_all}
 use Rattle.std.proofs.lemmas.List.Elements.{All-from_recursion, recursion_from_All}
 use Rattle.std.proofs.lemmas.Nat.Bits.{bit_at-suc}
 use Rattle.std.proofs.lemmas.Option.{get_or_from_slice_get}
@@ -13,8 +13,10 @@ use Rattle.qv_words.specs.Tree.{Tree, Variable, tree_sort}
 use Rattle.qv_words.specs.Sorted.{HasValues}
 use Rattle.qv_words.specs.Prenex.{negation}
 use Rattle.qv_words.specs.PassLaws.{IsPlain}
-use Rattle.qv_words.specs.Gate.{Lit, neg, lit_value}
-use Rattle.qv_words.specs.Linked.{Run, IsRun, blocks_of, linked_regions, places_below}
+use Rattle.qv_words.specs.Problem.{Problem}
+use Rattle.qv_words.specs.Gate.{Lit, neg, lit_value, clauses_value}
+use Rattle.qv_words.specs.Clauses.{cnf}
+use Rattle.qv_words.specs.Linked.{Block, Entry, Run, IsRun, blocks_of, linked_regions, places_below}
 use Rattle.qv_words.proofs.MovedBits.{extract_bits}
 use Rattle.qv_words.proofs.Elements.{all-weaker, get-before}
 use Rattle.qv_circuits_laws.specs.CircuitLaws.{number_of}
@@ -24,7 +26,7 @@ use Rattle.qv_circuits_laws.proofs.Standing.{bits-found}
 use Rattle.qv_game_laws.proofs.Terms.{OfVariable, IsOf, over-sort, over-sorted, over-free}
 use Rattle.qv_game_laws.proofs.Points.{below-is, IsPoint}
 use Rattle.qv_game_laws.proofs.Steps.{before, Before, point-values, longer, typed-length, has-values}
-use Rattle.qv_game_entry_laws.specs.BuildingLaws.{AgreeIn, Deny, FailedLeaveNone, IsAssumed, bits_in}
+use Rattle.qv_game_entry_laws.specs.BuildingLaws.{AgreeIn, Deny, FailedLeaveNone, IsAssumed, LeaveNone, bits_in}
 use Rattle.qv_game_entry_laws.proofs.Forced.{bool-below, regions-of}
 use Rattle.qv_game_laws.proofs.GameSteps.{level-of}
 
@@ -100,16 +102,15 @@ assumed-true formulas mine theirs values runs l v a bits each =
     ∙ ap (λ n. bit_at n a.index) number ∙ bit-of v a.bits a.index a.bit a.bit_is in
     ap (lit_value v) a.as_at_point ∙ literal-true v a.bit (bit_at (slice_index mine r.place) a.index) bit
 
-pub failed-leave-none : ClausesTheorem → FailedLeaveNone
-failed-leave-none theorem p earlier e block runs formulas core hp linked at_level links denied ordered assumed no_model point values typed each agree holds =
-    let index = level-of (blocks_of p.prefix) e.level block at_level in
-    let first : places_below (blocks_of p.prefix) e.level ≡ before p index.0 = below-is (blocks_of p.prefix) e.level index.0 index.1 in
-    let here : IsPoint p.prefix (before p index.0) point = subst (λ (n : ℕ). IsPoint p.prefix n point) first typed in
-    let size : length point ≡ before p index.0 = typed-length p index.0 point here in
-    let P = Before p (before p (suc index.0)) in
+-- values that make formulas over the places up to the block true at such a point would give a model
+pub none-where-failed : ClausesTheorem → (p : Problem) (e : Entry) (block : Block) (regions : List Tree) (runs : List Run) (formulas : List Tree) (core : List Lit) (j : ℕ) → e.level ≡ suc j → slice_get (blocks_of p.prefix) j ≡ Some block → AllByRecursion (IsOf (Before p (before p (suc j))) BoolSort) formulas → All (IsRun p e regions) runs → All (IsAssumed formulas e.point runs) core → ((v : ℕ → Bool) → clauses_value v (cnf formulas) ≡ true → list_all (lit_value v) core ≡ true → ⊥) → LeaveNone p e block runs formulas
+none-where-failed theorem p e block regions runs formulas core j level at of ordered assumed no_model point values typed each agree holds =
+    let first : places_below (blocks_of p.prefix) e.level ≡ before p j = below-is (blocks_of p.prefix) e.level j level in
+    let here : IsPoint p.prefix (before p j) point = subst (λ (n : ℕ). IsPoint p.prefix n point) first typed in
+    let size : length point ≡ before p j = typed-length p j point here in
+    let P = Before p (before p (suc j)) in
     let z = slice_get (point ++ values) in
-    let values-at = point-values p (before p (suc index.0)) (point ++ values) (longer p index.0 block point values index.2 here each) in
-    let of = formulas-of P formulas (linked_regions p earlier e) denied (regions-of p earlier e index.0 hp linked links index.1) in
+    let values-at = point-values p (before p (suc j)) (point ++ values) (longer p j block point values at here each) in
     let plain = All-from_recursion IsPlain formulas (all-weaker (IsOf P BoolSort) IsPlain formulas (λ t h. record { sorted = over-sorted P t h.0; free = over-free P t h.0 }) of) in
     let bool = All-from_recursion (λ t. tree_sort t ≡ Some BoolSort) formulas (all-weaker (IsOf P BoolSort) (λ t. tree_sort t ≡ Some BoolSort) formulas (λ t h. h.1) of) in
     let valued = All-from_recursion (HasValues [] z) formulas (all-weaker (IsOf P BoolSort) (HasValues [] z) formulas (λ t h. has-values P t z h.0 values-at) of) in
@@ -118,6 +119,13 @@ failed-leave-none theorem p earlier e block runs formulas core hp linked at_leve
     no_model model.0 model.2
     (all-true model.0 core (all-weaker (IsAssumed formulas e.point runs) (λ l. lit_value model.0 l ≡ true) core
     (λ l a. assumed-true formulas e.point point values runs l model.0 a bits (λ r among.
-    let run : IsRun p e (linked_regions p earlier e) r = subst (IsRun p e (linked_regions p earlier e)) among.2 (ordered among.0 r among.1) in
+    let run : IsRun p e regions r = subst (IsRun p e regions) among.2 (ordered among.0 r among.1) in
     (subst (λ (n : ℕ). r.place < n) (sym size) (subst (λ (n : ℕ). r.place < n) first run.below), subst (AgreeIn e.point point) among.2 (agree among.0 r among.1))))
     (recursion_from_All (IsAssumed formulas e.point runs) core assumed)))
+
+pub failed-leave-none : ClausesTheorem → FailedLeaveNone
+failed-leave-none theorem p earlier e block runs formulas core hp linked at_level links denied ordered assumed no_model =
+    let index = level-of (blocks_of p.prefix) e.level block at_level in
+    let regions = linked_regions p earlier e in
+    let of = formulas-of (Before p (before p (suc index.0))) formulas regions denied (regions-of p earlier e index.0 hp linked links index.1) in
+    none-where-failed theorem p e block regions runs formulas core index.0 index.1 index.2 of ordered assumed no_model

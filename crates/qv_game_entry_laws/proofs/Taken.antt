@@ -8,6 +8,7 @@ use Rattle.qv_words.specs.declared.sort.Sort.{Sort}
 use Rattle.qv_words.specs.declared.sort.Sort.TheVariants.{Bool as BoolSort}
 use Rattle.qv_words.specs.Tree.{Tree}
 use Rattle.qv_words.specs.Sorted.{constants_of, free_levels}
+use Rattle.qv_words.specs.PassLaws.{StandsFor}
 use Rattle.qv_words.specs.Problem.{Problem}
 use Rattle.qv_words.specs.Choice.{AreChosen, IsTrueAt}
 use Rattle.qv_words.specs.ChoiceLaws.{HasSortsFrom}
@@ -43,13 +44,13 @@ sorts-from P point x (s ∷ sorts) region h o = (
   sorts-from P point (suc x) sorts region h.1 o,
 )
 
--- a simplified formula is one over the same places
-simplified-over : (P : OfVariable) (u t : Tree) → IsSimplified u t → IsOf P BoolSort t → IsOf P BoolSort u
-simplified-over P u t h o =
-    let leaves = among-all (λ leaf. P leaf.0 leaf.1) (free_levels t) (free_levels u) (All-from_recursion (λ leaf. P leaf.0 leaf.1) (free_levels t) (over-leaves P t o.0)) h.stands.variables in (
-      over-from P u h.stands.plain.sorted h.stands.plain.free (among-none (constants_of t) (constants_of u) (over-constants P t o.0) h.stands.constants)
+-- what stands for a formula is one over the same places
+pub stands-over : (P : OfVariable) (u t : Tree) → StandsFor u t → IsOf P BoolSort t → IsOf P BoolSort u
+stands-over P u t h o =
+    let leaves = among-all (λ leaf. P leaf.0 leaf.1) (free_levels t) (free_levels u) (All-from_recursion (λ leaf. P leaf.0 leaf.1) (free_levels t) (over-leaves P t o.0)) h.variables in (
+      over-from P u h.plain.sorted h.plain.free (among-none (constants_of t) (constants_of u) (over-constants P t o.0) h.constants)
           (recursion_from_All (λ leaf. P leaf.0 leaf.1) (free_levels u) leaves),
-      h.stands.sort ∙ o.1,
+      h.sort ∙ o.1,
     )
 
 -- the same at the places before the block
@@ -77,7 +78,7 @@ at-block p earlier e block later values j hp linked w level at =
     let short : IsTrueAt e.point (with_terms (before p j) e.terms later) =
     over-agree (Before p (before p j)) (with_terms (before p j) e.terms later) (slice_get (e.point ++ values)) (slice_get e.point) 1 put.0
     (λ l s h. get-before e.point values l (let low = h.0 in omega (arith, low, size))) long in (
-      simplified-over (Before p (before p j)) e.region (with_terms (before p j) e.terms later) simplified put,
+      stands-over (Before p (before p j)) e.region (with_terms (before p j) e.terms later) simplified.stands put,
       simplified.stands.keeps [] (slice_get e.point) 1 (has-values (Before p (before p j)) (with_terms (before p j) e.terms later) (slice_get e.point) put.0 (point-values p (before p j) e.point typed)) short,
     )
 

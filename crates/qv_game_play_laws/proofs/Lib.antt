@@ -1,3 +1,4 @@
+pub mod Standing
 pub mod Queries
 pub mod Moves
 pub mod Complement

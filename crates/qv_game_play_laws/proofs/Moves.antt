@@ -15,8 +15,9 @@ use Rattle.qv_words.specs.GameLaws.{IsPointOf}
 use Rattle.qv_words.proofs.Elements.{all-both_weaker, to-some}
 use Rattle.qv_circuits_laws.proofs.Clausing.{clauses-theorem}
 use Rattle.qv_circuits_laws.proofs.Grounds.{clause-laws}
+use Rattle.qv_game_laws.proofs.Steps.{Before, before}
 use Rattle.qv_game_entry_laws.specs.BuildingLaws.{Deny, IsForcedBy, IsTaken}
-use Rattle.qv_game_entry_laws.proofs.Failed.{failed-leave-none}
+use Rattle.qv_game_entry_laws.proofs.Failed.{none-where-failed}
 use Rattle.qv_game_entry_laws.proofs.Forced.{forced-may-come}
 use Rattle.qv_game_entry_laws.proofs.Linking.{last-region_is_linked, one-region_is_linked}
 use Rattle.qv_game_entry_laws.proofs.Taken.{taken-may_come}
@@ -29,6 +30,7 @@ use Rattle.qv_meter.proofs.Fresh.{longer as one-more}
 use Rattle.qv_meter.proofs.Following.{settled-follows}
 use Rattle.qv_meter.proofs.Linking.{all-links}
 use Rattle.qv_game_play_laws.specs.PlayLaws.{forced_entry, sorts_below, ForcedIsPlayed, LeadsOn, OwnedIsPlayed}
+use Rattle.qv_game_play_laws.proofs.Standing.{occurs-before, plain-of, standing, standing-over, standing-true}
 
 -- a place that occurs in a formula occurs in what denies it
 negation-has : (x : ℕ) (t : Tree) → is_in x (negation t) ≡ is_in x t
@@ -84,18 +86,19 @@ run-of p e formulas regions r point denied h occurs =
     }
 
 pub forced-is_played : ForcedIsPlayed
-forced-is_played p entries level winner block point runs core h settled at other all none =
+forced-is_played p entries level winner block point runs core formulas h settled at other stands all none =
     let e = forced_entry p entries level winner point runs in
-    let formulas = query_list p entries winner (level + 1) in
+    let queries = query_list p entries winner (level + 1) in
     let is_linked : IsLinked p entries = linked p [] entries h.played in
     let links = all-links p entries e h.low h.high refl in
     let regions = linked_regions p entries e in
+    let there = standing p entries e block formulas h.problem is_linked at links.0 links.1 stands in
+    let plain = plain-of (Before p (before p (suc there.index))) queries there.of in
     let each : All (IsRun p e regions) runs = All-from_recursion (IsRun p e regions) runs
     (all-both_weaker (IsRunOf (sorts_below p (level + 1)) point) (λ r. OccursIn formulas r.place) (IsRun p e regions) runs
-    (λ r a b. run-of p e formulas regions r h.point_of links.1 a b)
+    (λ r a b. run-of p e queries regions r h.point_of links.1 a (occurs-before r.place formulas queries there.stand plain b))
     (recursion_from_All (IsRunOf (sorts_below p (level + 1)) point) runs all.each) (recursion_from_All (λ r. OccursIn formulas r.place) runs all.occurs)) in
-    let leave = failed-leave-none (clauses-theorem clause-laws) p entries e block runs formulas core h.problem is_linked at links.0 links.1 each all.assumed none in
-    let by : IsForcedBy p entries e block runs formulas = record {
+    let by : IsForcedBy p entries e block runs queries = record {
       at_level = at;
       owner = other;
       links = links.0;
@@ -105,9 +108,11 @@ forced-is_played p entries level winner block point runs core h settled at other
       each = each;
       apart = all.apart;
       region = refl;
-      none = leave;
+      none = λ point values typed of_block agree holds.
+          none-where-failed (clauses-theorem clause-laws) p e block regions runs formulas core there.index there.level there.at (standing-over p e block formulas queries there) each all.assumed none
+          point values typed of_block agree (standing-true p e block formulas queries there point values typed of_block holds);
     } in
-    let entry : IsEntry p entries e = forced-may-come p entries e block runs formulas h.problem is_linked by in
+    let entry : IsEntry p entries e = forced-may-come p entries e block runs queries h.problem is_linked by in
     let fresh : IsFresh p entries e = record { outside = h.outside; undecided = h.undecided; follows = settled-follows p entries e.links settled } in
     one-more p [] entries e h.played (entry, fresh)
 

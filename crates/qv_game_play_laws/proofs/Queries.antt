@@ -1,8 +1,8 @@
 -- The formulas of query lists, and points that make them true.
-use Rattle.std.proofs.Common.{◌≡◌, ℕ, zero, suc, ◌+◌, ◌<◌, true, Some, List, [], ◌∷◌, length, map, slice_get, take, inl, inr, refl, sym, ap, ◌∙◌, subst, arith}
+use Rattle.std.proofs.Common.{◌≡◌, ℕ, zero, suc, ◌+◌, ◌<◌, Some, List, [], ◌∷◌, length, map, slice_get, take, inl, inr, refl, sym, ap, ◌∙◌, subst, arith}
 use Rattle.std.specs.Prelude.{◌==◌, option_map}
-use Rattle.std.specs.List.{All, AllByRecursion}
-use Rattle.std.proofs.lemmas.Bool.{and_parts, cases_Bool, eq-eqb, eqb-true}
+use Rattle.std.specs.List.{All, AllByRecursion, AllZip}
+use Rattle.std.proofs.lemmas.Bool.{and_parts, cases_Bool, eqb-true}
 use Rattle.std.proofs.lemmas.List.Elements.{All-from_recursion, recursion_from_All}
 use Rattle.std.proofs.lemmas.Option.{slice_get-map}
 use Rattle.qv_words.specs.declared.sort.Sort.{Sort}
@@ -11,20 +11,23 @@ use Rattle.qv_words.specs.Tree.{Tree}
 use Rattle.qv_words.specs.Sorted.{free_levels}
 use Rattle.qv_words.specs.Choice.{IsTrueAt}
 use Rattle.qv_words.specs.Prenex.{negation}
+use Rattle.qv_words.specs.PassLaws.{IsPlain, StandsFor}
 use Rattle.qv_words.specs.Problem.{Problem, Place, Quantifier, Existential, Universal, other}
 use Rattle.qv_words.specs.Skolem.{IsTermOf}
 use Rattle.qv_words.specs.Linked.{Entry, IsLinked, IsPlaceBelow, blocks_of, entries_of, is_of, last_region, places_below, same_quantifier}
-use Rattle.qv_words.specs.GameLaws.{IsProblem}
+use Rattle.qv_words.specs.GameLaws.{IsPointOf, IsProblem}
 use Rattle.qv_words.proofs.Elements.{all-at, all-weaker, some-and}
 use Rattle.qv_words.proofs.Unique.{one_meaning}
 use Rattle.qv_game_laws.proofs.Each.{each-entry}
 use Rattle.qv_game_laws.proofs.RegionTheorem.{negation-false}
-use Rattle.qv_game_laws.proofs.Points.{below-is}
-use Rattle.qv_game_laws.proofs.Steps.{before-last, negation-of}
+use Rattle.qv_game_laws.proofs.Points.{IsPoint, below-is}
+use Rattle.qv_game_laws.proofs.Steps.{Before, before-last, matrix-of, negation-of, point-values}
 use Rattle.qv_game_laws.proofs.Terms.{OfVariable, IsOf, over-from_term, over-leaves, term-from_over}
-use Rattle.qv_meter.specs.Queries.{AreDenied, block_count, last_query, query_list}
+use Rattle.qv_meter.specs.Queries.{AreDenied, StandsForQuery, block_count, last_query, query_list}
 use Rattle.qv_meter.proofs.Fresh.{linked}
+use Rattle.qv_meter.proofs.Standing.{list-inner, list-last}
 use Rattle.qv_game_play_laws.specs.PlayLaws.{sorts_below, AnswersLieOutside, LeftOutLieOutside, QueriesAreOverPlaces}
+use Rattle.qv_game_play_laws.proofs.Standing.{each-over, plain-of, stand-for, true-before}
 
 -- a variable is a place of the blocks before, of its sort
 abbrev InPlaces : Problem → ℕ → OfVariable
@@ -72,16 +75,16 @@ negated-over p level winner (e ∷ es) h = elim (cases_Bool (is_of level winner 
   | inr n ↦ rw n (negated-over p level winner es h.1)
 ]
 
+last-of_matrix : (P : OfVariable) (p : Problem) (winner : Quantifier) → IsOf P BoolSort p.matrix → IsOf P BoolSort (last_query p winner)
+last-of_matrix P p Existential m = negation-of P p.matrix m
+last-of_matrix P p Universal m = m
+
 last-over : (p : Problem) (winner : Quantifier) (level : ℕ) → level ≡ block_count p + 1 → IsProblem p → IsOf (InPlaces p level) BoolSort (last_query p winner)
 last-over p winner level e h =
     let next : level ≡ suc (block_count p) = omega (arith, e) in
     let all : places_below (blocks_of p.prefix) level ≡ length p.prefix = below-is (blocks_of p.prefix) level (block_count p) next ∙ before-last p in
     let places = subst (λ (n : ℕ). All (IsPlaceBelow p n) (free_levels p.matrix)) (sym all) h.variables in
-    by winner (of-places p level p.matrix h.matrix places)
-  where
-    by : (winner : Quantifier) → IsOf (InPlaces p level) BoolSort p.matrix → IsOf (InPlaces p level) BoolSort (last_query p winner)
-    by Existential m = negation-of (InPlaces p level) p.matrix m
-    by Universal m = m
+    last-of_matrix (InPlaces p level) p winner (of-places p level p.matrix h.matrix places)
 
 queries-over : (p : Problem) (entries : List Entry) (winner : Quantifier) (level : ℕ) → IsProblem p → IsLinked p entries → AllByRecursion (IsOf (InPlaces p level) BoolSort) (query_list p entries winner level)
 queries-over p entries winner level hp h = elim (cases_Bool (level == block_count p + 1)) [
@@ -90,13 +93,15 @@ queries-over p entries winner level hp h = elim (cases_Bool (level == block_coun
 ]
 
 pub queries-are_over_places : QueriesAreOverPlaces
-queries-are_over_places p entries winner level hp played =
+queries-are_over_places p entries winner level formulas hp played stands =
+    let P = InPlaces p level in
     let list = query_list p entries winner level in
-    let each = queries-over p entries winner level hp (linked p [] entries played) in (
-      All-from_recursion (λ t. IsTermOf t BoolSort) list (all-weaker (IsOf (InPlaces p level) BoolSort) (λ t. IsTermOf t BoolSort) list (λ t h. term-from_over (InPlaces p level) BoolSort t h) each),
-      All-from_recursion (λ t. All (λ leaf. slice_get (sorts_below p level) leaf.0 ≡ Some leaf.1) (free_levels t)) list
-          (all-weaker (IsOf (InPlaces p level) BoolSort) (λ t. All (λ leaf. slice_get (sorts_below p level) leaf.0 ≡ Some leaf.1) (free_levels t)) list
-          (λ t h. All-from_recursion (λ leaf. slice_get (sorts_below p level) leaf.0 ≡ Some leaf.1) (free_levels t) (over-leaves (InPlaces p level) t h.0)) each),
+    let of = queries-over p entries winner level hp (linked p [] entries played) in
+    let each = each-over P formulas list (stand-for p entries winner level formulas (plain-of P list of) stands) of in (
+      All-from_recursion (λ t. IsTermOf t BoolSort) formulas (all-weaker (IsOf P BoolSort) (λ t. IsTermOf t BoolSort) formulas (λ t h. term-from_over P BoolSort t h) each),
+      All-from_recursion (λ t. All (λ leaf. slice_get (sorts_below p level) leaf.0 ≡ Some leaf.1) (free_levels t)) formulas
+          (all-weaker (IsOf P BoolSort) (λ t. All (λ leaf. slice_get (sorts_below p level) leaf.0 ≡ Some leaf.1) (free_levels t)) formulas
+          (λ t h. All-from_recursion (λ leaf. slice_get (sorts_below p level) leaf.0 ≡ Some leaf.1) (free_levels t) (over-leaves P t h.0)) each),
     )
 
 -- where a negation is true the formula isn't
@@ -113,23 +118,28 @@ last-of : (p : Problem) (winner : Quantifier) → last_query p winner ≡ last_r
 last-of p Existential = refl
 last-of p Universal = refl
 
-list-last : (p : Problem) (entries : List Entry) (winner : Quantifier) (level : ℕ) → level ≡ block_count p + 1 → query_list p entries winner level ≡ last_query p winner ∷ []
-list-last p entries winner level e = let test : (level == block_count p + 1) ≡ true = eq-eqb level (block_count p + 1) e in rw test refl
-
-list-inner : (p : Problem) (entries : List Entry) (winner : Quantifier) (level : ℕ) → (level ≡ block_count p + 1 → ⊥) → query_list p entries winner level ≡ map (λ (e : Entry). negation e.region) (entries_of level winner entries)
-list-inner p entries winner level other = elim (cases_Bool (level == block_count p + 1)) [
-  | inl y ↦ absurd (other (eqb-true level (block_count p + 1) y))
-  | inr n ↦ rw n refl
-]
+-- behind the last block the one formula that is asked stands for the last query
+last-true : (p : Problem) (entries : List Entry) (winner : Quantifier) (level : ℕ) (point : List ℕ) (formulas : List Tree) → level ≡ block_count p + 1 → IsProblem p → IsPointOf p level point → StandsForQuery p entries winner level formulas → All (IsTrueAt point) formulas → IsTrueAt point (last_query p winner)
+last-true p entries winner level point formulas e hp typed stands h =
+    let P = Before p (length p.prefix) in
+    let one = last_query p winner ∷ [] in
+    let list : query_list p entries winner level ≡ one = list-last p entries winner level e in
+    let of : AllByRecursion (IsOf P BoolSort) one = (last-of_matrix P p winner (matrix-of p hp), tt) in
+    let stand = subst (AllZip StandsFor formulas) list (stand-for p entries winner level formulas (subst (AllByRecursion IsPlain) (sym list) (plain-of P one of)) stands) in
+    let all : places_below (blocks_of p.prefix) level ≡ length p.prefix = below-is (blocks_of p.prefix) level (block_count p) (omega (arith, e)) ∙ before-last p in
+    let here : IsPoint p.prefix (length p.prefix) point = subst (λ (n : ℕ). IsPoint p.prefix n point) all typed in
+    (true-before P (slice_get point) (point-values p (length p.prefix) point here) formulas one stand of (recursion_from_All (IsTrueAt point) formulas h)).0
 
 pub answers-lie_outside : AnswersLieOutside
-answers-lie_outside p entries winner level point h = (
-  λ e. let one = subst (All (IsTrueAt point)) (list-last p entries winner level e) h in
-      let true_there = (recursion_from_All (IsTrueAt point) (last_query p winner ∷ []) one).0 in
-      subst (IsTrueAt point) (last-of p winner) true_there,
-  λ other. let all = subst (All (IsTrueAt point)) (list-inner p entries winner level other) h in
-      All-from_recursion (λ (f : Entry). IsTrueAt point f.region → ⊥) (entries_of level winner entries)
-      (outside point (entries_of level winner entries) (recursion_from_All (IsTrueAt point) (map (λ (e : Entry). negation e.region) (entries_of level winner entries)) all)),
+answers-lie_outside p entries winner level point formulas hp played typed stands h = (
+  λ e. subst (IsTrueAt point) (last-of p winner) (last-true p entries winner level point formulas e hp typed stands h),
+  λ away. elim stands [
+    | inl last ↦ absurd (away last.0)
+    | inr inner ↦
+        let all = subst (All (IsTrueAt point)) (inner.1 ∙ list-inner p entries winner level away) h in
+        All-from_recursion (λ (f : Entry). IsTrueAt point f.region → ⊥) (entries_of level winner entries)
+        (outside point (entries_of level winner entries) (recursion_from_All (IsTrueAt point) (map (λ (e : Entry). negation e.region) (entries_of level winner entries)) all))
+  ],
 )
 
 -- a list from which covered regions were left out says as much
@@ -147,7 +157,7 @@ denied-outside point (e ∷ es) formulas h holds = elim h [
 
 pub left-out_lie_outside : LeftOutLieOutside
 left-out_lie_outside p entries winner level point formulas other asked holds = elim asked [
-  | inl whole ↦ (answers-lie_outside p entries winner level point (subst (All (IsTrueAt point)) whole holds)).1 other
+  | inl last ↦ absurd (other last.0)
   | inr part ↦
       let regions = entries_of level winner entries in
       All-from_recursion (λ (f : Entry). IsTrueAt point f.region → ⊥) regions

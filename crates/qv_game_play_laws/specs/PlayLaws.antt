@@ -16,23 +16,24 @@ use Rattle.qv_game_entry_laws.specs.BuildingLaws.{IsSimplified}
 use Rattle.qv_game_entry_laws.specs.QueryLaws.{AreOver}
 use Rattle.qv_game_entry_laws.specs.PointLaws.{AssumeAll}
 use Rattle.qv_meter.specs.Played.{FollowsForced, IsPlayed, IsSettled, IsUndecided}
-use Rattle.qv_meter.specs.Queries.{AreAsked, all_links, block_count, query_list}
+use Rattle.qv_meter.specs.Queries.{AreAsked, StandsForQuery, all_links, block_count}
 
 -- the sorts of the places of the blocks before a level
 abbrev pub sorts_below : Problem → ℕ → List Sort
 sorts_below p level = map (λ place. place.sort) (take (places_below (blocks_of p.prefix) level) p.prefix)
 
--- a query list's formulas are formulas over the places of the blocks before its level
+-- what stands for a query list are formulas over the places of the blocks before its level
 abbrev pub QueriesAreOverPlaces : Type 0
 QueriesAreOverPlaces =
-    (p : Problem) (entries : List Entry) (winner : Quantifier) (level : ℕ) → IsProblem p → IsPlayed p entries →
-    All (λ t. IsTermOf t BoolSort) (query_list p entries winner level) × AreOver (sorts_below p level) (query_list p entries winner level)
+    (p : Problem) (entries : List Entry) (winner : Quantifier) (level : ℕ) (formulas : List Tree) → IsProblem p → IsPlayed p entries →
+    StandsForQuery p entries winner level formulas → All (λ t. IsTermOf t BoolSort) formulas × AreOver (sorts_below p level) formulas
 
--- what an answer to a query list says: behind the last block the other player has won, and at
+-- what an answer to such formulas says: behind the last block the other player has won, and at
 -- another level the point lies in no region of this winner
 abbrev pub AnswersLieOutside : Type 0
 AnswersLieOutside =
-    (p : Problem) (entries : List Entry) (winner : Quantifier) (level : ℕ) (point : List ℕ) → All (IsTrueAt point) (query_list p entries winner level) →
+    (p : Problem) (entries : List Entry) (winner : Quantifier) (level : ℕ) (point : List ℕ) (formulas : List Tree) → IsProblem p → IsPlayed p entries →
+    IsPointOf p level point → StandsForQuery p entries winner level formulas → All (IsTrueAt point) formulas →
     (level ≡ block_count p + 1 → IsTrueAt point (last_region p (other winner)))
     × ((level ≡ block_count p + 1 → ⊥) → All (λ f. IsTrueAt point f.region → ⊥) (entries_of level winner entries))
 
@@ -66,10 +67,10 @@ forced_entry p entries level winner point runs = record {
 
 abbrev pub ForcedIsPlayed : Type 0
 ForcedIsPlayed =
-    (p : Problem) (entries : List Entry) (level : ℕ) (winner : Quantifier) (block : Block) (point : List ℕ) (runs : List Run) (core : List Lit) → MayMove p entries level winner point →
+    (p : Problem) (entries : List Entry) (level : ℕ) (winner : Quantifier) (block : Block) (point : List ℕ) (runs : List Run) (core : List Lit) (formulas : List Tree) → MayMove p entries level winner point →
     IsSettled p entries → block_numbered (blocks_of p.prefix) level ≡ Some block → (winner ≡ block.owner → ⊥) →
-    AssumeAll (query_list p entries winner (level + 1)) (sorts_below p (level + 1)) point runs core →
-    ((v : ℕ → Bool) → clauses_value v (cnf (query_list p entries winner (level + 1))) ≡ true → list_all (lit_value v) core ≡ true → ⊥) →
+    StandsForQuery p entries winner (level + 1) formulas → AssumeAll formulas (sorts_below p (level + 1)) point runs core →
+    ((v : ℕ → Bool) → clauses_value v (cnf formulas) ≡ true → list_all (lit_value v) core ≡ true → ⊥) →
     IsPlayed p (entries ++ forced_entry p entries level winner point runs ∷ [])
 
 -- what lies outside all regions of a player at a level
@@ -91,10 +92,10 @@ complement_entry p entries level winner point = record {
 -- clauses of lying outside them all have no model with those of what was asked behind them
 abbrev pub ComplementIsPlayed : Type 0
 ComplementIsPlayed =
-    (p : Problem) (entries : List Entry) (level : ℕ) (winner : Quantifier) (block : Block) (point : List ℕ) → MayMove p entries level winner point →
+    (p : Problem) (entries : List Entry) (level : ℕ) (winner : Quantifier) (block : Block) (point : List ℕ) (formulas : List Tree) → MayMove p entries level winner point →
     IsSettled p entries → entries_of level (other winner) entries ≢ [] → All (λ f. IsTrueAt point f.region → ⊥) (entries_of level (other winner) entries) →
     block_numbered (blocks_of p.prefix) level ≡ Some block → (winner ≡ block.owner → ⊥) →
-    ((v : ℕ → Bool) → clauses_value v (cnf (outside_all entries (other winner) level ∷ query_list p entries winner (level + 1))) ≡ true → ⊥) →
+    StandsForQuery p entries winner (level + 1) formulas → ((v : ℕ → Bool) → clauses_value v (cnf (outside_all entries (other winner) level ∷ formulas)) ≡ true → ⊥) →
     IsPlayed p (entries ++ complement_entry p entries level winner point ∷ [])
 
 -- the later region that an owner's entry leads to: the last region, or that of its one link

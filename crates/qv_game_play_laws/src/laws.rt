@@ -4,12 +4,12 @@ ghost use Rattle.qv_game_play_laws.specs.PlayLaws.{QueriesAreOverPlaces, Answers
 ghost use Rattle.qv_game_play_laws.specs.PlayLaws.{LeftOutLieOutside, ForcedIsPlayed, OwnedIsPlayed};
 ghost use Rattle.qv_game_play_laws.specs.PlayLaws.{ComplementIsPlayed};
 
-/// The formulas of a query list are formulas over the problem's places.
+/// What stands for a query list are formulas over the problem's places.
 pub fn queries_are_over_places()
     ensures { QueriesAreOverPlaces }
 {}
 
-/// A point that makes a query list true lies outside all regions that it is about.
+/// A point that makes these true lies outside all regions that the list is about.
 pub fn answers_lie_outside()
     ensures { AnswersLieOutside }
 {}

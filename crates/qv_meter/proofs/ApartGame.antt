@@ -1,6 +1,6 @@
 -- There is no bit x that is each bit y: the universal player wins by an entry for each x, and the tree has
 -- one line for x and below it two for y.
-use Rattle.std.proofs.Common.{◌≡◌, ◌≢◌, ℕ, ◌<◌, List, [], ◌∷◌, ◌++◌, refl, ap, inl, inr, arith}
+use Rattle.std.proofs.Common.{◌≡◌, ◌≢◌, ℕ, ◌<◌, List, [], ◌∷◌, ◌++◌, map, refl, ap, inl, inr, arith}
 use Rattle.std.specs.Prelude.{IsSomeAnd, slice_get, sum}
 use Rattle.std.proofs.lemmas.Bool.{true≢false}
 use Rattle.std.proofs.lemmas.List.Elements.{All-from_recursion}
@@ -17,12 +17,13 @@ use Rattle.qv_words.specs.Inverse.{inverse_term}
 use Rattle.qv_words.specs.Choice.{candidates, with_term, IsTrueAt}
 use Rattle.qv_words.specs.Expansion.{Instance, Eigen}
 use Rattle.qv_words.specs.declared.rule.Rule.TheVariants.{Fold, Same, NotNot, Unit as UnitRule, Absorb, IteKnown, IteSame, AddZero, MulOne, MulZero}
-use Rattle.qv_words.specs.Passes.{FitsNone, IsSimple}
+use Rattle.qv_words.specs.Passes.{FitsNone, IsSimple, rules_in_order}
 use Rattle.qv_words.specs.Problem.{Problem, Place, Existential, Universal}
 use Rattle.qv_words.specs.Linked.{Entry, IsEntry, IsLink, IsPlaceBelow, drawn, tree_of, paths_of}
+use Rattle.qv_rewrite_passes.specs.declared.pass.Pass.TheVariants.{By}
 use Rattle.qv_meter.specs.Played.{IsFresh, IsPlayed}
 use Rattle.qv_meter.specs.Queries.{query_list}
-use Rattle.qv_meter.specs.Finals.{final_list, instances_of}
+use Rattle.qv_meter.specs.Finals.{IsFinalList, instances_of}
 use Rattle.qv_meter.specs.Units.{IsFinal, IsLineUnit}
 use Rattle.qv_meter.proofs.Following.{follows-newest, follows-none}
 use Rattle.qv_meter.proofs.Valuing.{holds, fails, like_itself, below_two}
@@ -74,9 +75,9 @@ instances : instances_of p Universal entries ≡ 6
 unfolding tree_of drawn
 instances = refl
 
-leaves : final_list p Universal entries ≡ binary Equal (Variable 1 (Bits 1)) (number 1) ∷ binary Equal (Variable 1 (Bits 1)) (number 0) ∷ []
+leaves : IsFinalList p Universal entries (binary Equal (Variable 1 (Bits 1)) (number 1) ∷ binary Equal (Variable 1 (Bits 1)) (number 0) ∷ [])
 unfolding tree_of drawn
-leaves = refl
+leaves = (map By rules_in_order, refl)
 
 -- The entries may come where they do.
 lawful : IsLawful (Bits 1)
@@ -234,4 +235,4 @@ no-line-early unit =
 -- the final list comes behind all lines
 last-list : IsFinal p 6 entries (binary Equal (Variable 1 (Bits 1)) (number 1) ∷ binary Equal (Variable 1 (Bits 1)) (number 0) ∷ [])
 unfolding tree_of drawn
-last-list = record { winner = Universal; played = played; won = inl refl; counted = refl; list = refl }
+last-list = record { winner = Universal; played = played; won = inl refl; counted = refl; list = leaves }

@@ -1,5 +1,5 @@
 -- For all x there is a y below x: the universal player wins with 0, by two entries and two lines.
-use Rattle.std.proofs.Common.{◌≡◌, ◌≢◌, ℕ, List, [], ◌∷◌, ◌++◌, refl, inl, arith}
+use Rattle.std.proofs.Common.{◌≡◌, ◌≢◌, ℕ, List, [], ◌∷◌, ◌++◌, map, refl, inl, arith}
 use Rattle.std.specs.Prelude.{IsSomeAnd, slice_get}
 use Rattle.std.proofs.lemmas.List.Elements.{All-from_recursion}
 use Rattle.std.specs.List.{AllZip}
@@ -9,13 +9,15 @@ use Rattle.qv_words.specs.Sort.{IsValueOf}
 use Rattle.qv_words.specs.Tree.{Variable}
 use Rattle.qv_words.specs.Prenex.{binary, negation}
 use Rattle.qv_words.specs.Inverse.{inverse_term}
-use Rattle.qv_words.specs.Choice.{candidates, with_term, IsTrueAt}
+use Rattle.qv_words.specs.Choice.{candidates, IsTrueAt}
 use Rattle.qv_words.specs.Expansion.{Instance, Eigen}
+use Rattle.qv_words.specs.Passes.{rules_in_order}
 use Rattle.qv_words.specs.Problem.{Problem, Place, Existential, Universal}
 use Rattle.qv_words.specs.Linked.{Entry, IsEntry, IsLink, IsPlaceBelow, Run, IsRun, drawn, tree_of, paths_of}
+use Rattle.qv_rewrite_passes.specs.declared.pass.Pass.TheVariants.{By}
 use Rattle.qv_meter.specs.Played.{IsFresh, IsPlayed}
 use Rattle.qv_meter.specs.Queries.{query_list}
-use Rattle.qv_meter.specs.Finals.{final_list, instances_of}
+use Rattle.qv_meter.specs.Finals.{IsFinalList, instances_of}
 use Rattle.qv_meter.proofs.Following.{follows-newest, follows-none}
 use Rattle.qv_meter.proofs.Valuing.{holds, fails, like_true, below_four}
 use Rattle.qv_meter.proofs.Words.{word, number, yes, fixed, yes-formula, fixed-formula}
@@ -58,9 +60,9 @@ instances : instances_of p Universal (low ∷ high ∷ []) ≡ 4
 unfolding tree_of drawn
 instances = refl
 
-final : final_list p Universal (low ∷ high ∷ []) ≡ binary BvUlt (Variable 2 (Bits 2)) (number 0) ∷ []
+pub final : IsFinalList p Universal (low ∷ high ∷ []) (binary BvUlt (Variable 2 (Bits 2)) (number 0) ∷ [])
 unfolding tree_of drawn
-final = refl
+final = (map By rules_in_order, refl)
 
 -- Both entries may come where they do.
 closed : (point values : List ℕ) → AllZip (λ (v : ℕ) (place : Place). IsValueOf v place.sort) point (record { quantifier = Universal; sort = Bits 2 } ∷ []) → AllZip IsValueOf values (Bits 2 ∷ []) → IsTrueAt point (fixed 0 0) → (k : ℕ) × IsSomeAnd (slice_get (negation p.matrix ∷ []) k) (λ t. IsTrueAt (point ++ values) t)

@@ -23,7 +23,7 @@ use Rattle.qv_meter.specs.Records.{Limits, Metering, Conflicts, Instances, Varia
 use Rattle.qv_meter.proofs.Valuing.{fails, holds}
 use Rattle.qv_meter.proofs.Fresh.{shorter, last-entry}
 use Rattle.qv_meter.proofs.Words.{number, fixed, yes}
-use Rattle.qv_meter.proofs.BelowGame.{p, low, high, played}
+use Rattle.qv_meter.proofs.BelowGame.{p, low, high, final, played}
 
 only-low : IsPlayed p (low ∷ [])
 only-low = shorter p [] (low ∷ []) high played
@@ -69,7 +69,7 @@ no-line-again unit =
 
 -- what may be asked without entries, and with one
 first-query : IsQuery p 0 [] Universal 3 (p.matrix ∷ [])
-first-query = record { played = tt; counted = refl; undecided = All-from_recursion _ [] tt; asked = record { low = omega arith; high = omega arith }; list = inl refl }
+first-query = record { played = tt; counted = refl; undecided = All-from_recursion _ [] tt; asked = record { low = omega arith; high = omega arith }; list = inl (refl, ([], refl)) }
 
 second-query : IsQuery p 1 (low ∷ []) Universal 2 (negation (fixed 0 0) ∷ [])
 second-query = record {
@@ -77,13 +77,13 @@ second-query = record {
   counted = refl;
   undecided = All-from_recursion (λ e. e.level ≢ 1) (low ∷ []) ((λ h. omega (arith, h)), tt);
   asked = record { low = omega arith; high = omega arith };
-  list = inl refl;
+  list = inr ((λ h. omega (arith, h)), inl ([], refl, refl));
 }
 
 -- not the other player's regions
 not-the-other's : IsQuery p 1 (low ∷ []) Existential 2 (negation (fixed 0 0) ∷ []) → ⊥
 not-the-other's q = elim q.list [
-  | inl whole ↦ let longer : 1 ≡ 0 = ap (λ (ts : List Tree). length ts) whole in omega (arith, longer)
+  | inl behind ↦ omega (arith, behind.0)
   | inr part ↦ let longer : 1 ≡ 0 = ap (λ (ts : List Tree). length ts) part.1 in omega (arith, longer)
 ]
 
@@ -96,7 +96,7 @@ covered = inr (λ h. omega (arith, h), inr ((0, λ point h. refl), inl ([], refl
 
 not-left_out : AreAsked p (wide ∷ low ∷ []) Universal 2 (negation (fixed 0 0) ∷ []) → ⊥
 not-left_out h = elim h [
-  | inl whole ↦ let longer : 1 ≡ 2 = ap (λ (ts : List Tree). length ts) whole in omega (arith, longer)
+  | inl behind ↦ omega (arith, behind.0)
   | inr part ↦ elim part.1 [
     | inl first ↦ absurd (fails (1 ∷ []) (fixed 0 0) refl (subst (IsTrueAt (1 ∷ [])) (sym (same-negated (fixed 0 0) yes (first-is (negation (fixed 0 0)) (negation yes) [] first.0 first.1))) refl))
     | inr over ↦ uncovered over.0.0 over.0.1
@@ -127,7 +127,7 @@ not-at-4 formulas q = let high : 4 ≤ 3 = q.asked.high in omega (arith, high)
 -- the final list, with the entries and the lines counted
 last-list : IsFinal p 4 (low ∷ high ∷ []) (binary BvUlt (Variable 2 (Bits 2)) (number 0) ∷ [])
 unfolding tree_of drawn
-last-list = record { winner = Universal; played = played; won = inl refl; counted = refl; list = refl }
+last-list = record { winner = Universal; played = played; won = inl refl; counted = refl; list = final }
 
 -- the clauses of the matrix have 7 variables, one that is true, two for each place and two of gates: they
 -- are too many for a limit of 6, and not for one of 7

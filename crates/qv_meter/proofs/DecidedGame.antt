@@ -1,14 +1,16 @@
 -- A problem without places: nothing is played, and the matrix decides.
-use Rattle.std.proofs.Common.{◌≡◌, ℕ, ◌+◌, ◌≤◌, length, List, [], ◌∷◌, refl, inr, arith}
+use Rattle.std.proofs.Common.{◌≡◌, ℕ, ◌+◌, ◌≤◌, length, List, [], ◌∷◌, map, refl, inr, arith}
 use Rattle.std.proofs.lemmas.Bool.{false≢true}
 use Rattle.qv_words.specs.declared.op.Op.TheVariants.{Xor}
 use Rattle.qv_words.specs.Sorted.{no_levels}
 use Rattle.qv_words.specs.Tree.{Tree}
 use Rattle.qv_words.specs.Prenex.{binary}
+use Rattle.qv_words.specs.Passes.{rules_in_order}
 use Rattle.qv_words.specs.Problem.{Problem, Quantifier, Existential, Universal}
 use Rattle.qv_words.specs.Linked.{Entry, chain, paths_of, tree_of}
 use Rattle.qv_words.specs.GameLaws.{HasWon}
-use Rattle.qv_meter.specs.Finals.{final_list}
+use Rattle.qv_rewrite_passes.specs.declared.pass.Pass.TheVariants.{By}
+use Rattle.qv_meter.specs.Finals.{IsFinalList}
 use Rattle.qv_meter.specs.Played.{IsPlayed}
 use Rattle.qv_meter.specs.Units.{AreInstances, IsQuery, IsFinal, IsLineUnit}
 use Rattle.qv_meter.proofs.Valuing.{value-means}
@@ -32,13 +34,13 @@ unfolding tree_of
 no-lines = refl
 
 -- the goal is the negation of the matrix, and the one leaf is the matrix, both after the passes
-goal : final_list won Existential [] ≡ no ∷ []
+goal : IsFinalList won Existential [] (no ∷ [])
 unfolding chain
-goal = refl
+goal = (map By rules_in_order, refl)
 
-leaf : final_list lost Universal [] ≡ no ∷ []
+leaf : IsFinalList lost Universal [] (no ∷ [])
 unfolding tree_of
-leaf = refl
+leaf = (map By rules_in_order, refl)
 
 existential-wins : HasWon won Existential []
 existential-wins = inr (refl, refl, value-means no_levels won.matrix 1 refl)
@@ -48,11 +50,11 @@ universal-wins = inr (refl, refl, value-means no_levels lost.matrix 0 refl)
 
 final-goal : IsFinal won 0 [] (no ∷ [])
 unfolding chain
-final-goal = record { winner = Existential; played = tt; won = existential-wins; counted = refl; list = refl }
+final-goal = record { winner = Existential; played = tt; won = existential-wins; counted = refl; list = goal }
 
 final-leaf : IsFinal lost 0 [] (no ∷ [])
 unfolding tree_of
-final-leaf = record { winner = Universal; played = tt; won = universal-wins; counted = refl; list = refl }
+final-leaf = record { winner = Universal; played = tt; won = universal-wins; counted = refl; list = leaf }
 
 -- no query list, and no line
 no-query : (n level : ℕ) (entries : List Entry) (winner : Quantifier) (formulas : List Tree) → IsQuery won n entries winner level formulas → ⊥

@@ -1,5 +1,5 @@
 -- There is an x that no y is above: after two values of x that lose, the existential player wins with 3.
-use Rattle.std.proofs.Common.{◌≡◌, ◌≢◌, ℕ, List, [], ◌∷◌, ◌++◌, refl, inl, arith}
+use Rattle.std.proofs.Common.{◌≡◌, ◌≢◌, ℕ, List, [], ◌∷◌, ◌++◌, map, refl, inl, inr, arith}
 use Rattle.std.specs.Prelude.{IsSomeAnd, slice_get}
 use Rattle.std.proofs.lemmas.Bool.{true≢false}
 use Rattle.std.proofs.lemmas.List.Elements.{All-from_recursion}
@@ -15,12 +15,13 @@ use Rattle.qv_words.specs.Prenex.{binary, negation}
 use Rattle.qv_words.specs.Inverse.{inverse_term}
 use Rattle.qv_words.specs.Choice.{candidates, with_term, IsTrueAt}
 use Rattle.qv_words.specs.declared.rule.Rule.TheVariants.{Fold, Same, NotNot, Unit as UnitRule, Absorb, IteKnown, IteSame, AddZero, MulOne, MulZero}
-use Rattle.qv_words.specs.Passes.{FitsNone, IsSimple}
+use Rattle.qv_words.specs.Passes.{FitsNone, IsSimple, rules_in_order}
 use Rattle.qv_words.specs.Problem.{Problem, Place, Existential, Universal}
 use Rattle.qv_words.specs.Linked.{Entry, IsEntry, IsLink, IsPlaceBelow, Run, IsRun, chain, chain_of}
+use Rattle.qv_rewrite_passes.specs.declared.pass.Pass.TheVariants.{By}
 use Rattle.qv_meter.specs.Played.{IsFresh, IsPlayed, IsUndecided}
 use Rattle.qv_meter.specs.Queries.{query_list}
-use Rattle.qv_meter.specs.Finals.{final_list}
+use Rattle.qv_meter.specs.Finals.{IsFinalList}
 use Rattle.qv_meter.specs.Units.{IsQuery, IsFinal}
 use Rattle.qv_meter.proofs.Following.{follows-newest, follows-none}
 use Rattle.qv_meter.proofs.Valuing.{holds, fails, like_true, like_itself, below_four}
@@ -73,9 +74,9 @@ term : chain p entries ≡ record { place = 0; term = number 3 } ∷ []
 unfolding chain chain_of
 term = refl
 
-goal : final_list p Existential entries ≡ negation (binary BvUge (number 3) (word 1)) ∷ []
+goal : IsFinalList p Existential entries (negation (binary BvUge (number 3) (word 1)) ∷ [])
 unfolding chain chain_of
-goal = refl
+goal = (map By rules_in_order, refl)
 
 -- The entries may come where they do.
 minus-formula : IsTermOf (below BvSub) BoolSort
@@ -315,8 +316,8 @@ played = (zero-entry, zero-fresh, (one-entry, one-fresh, (three-entry, three-fre
 
 -- so these lists are lawful at their counts: the last query about x, and the goal
 last-query : IsQuery p 3 (zero-loses ∷ one-loses ∷ three-wins ∷ []) Universal 2 (negation (below BvSub) ∷ negation (below BvAdd) ∷ [])
-last-query = record { played = so-far; counted = refl; undecided = undecided; asked = record { low = omega arith; high = omega arith }; list = inl refl }
+last-query = record { played = so-far; counted = refl; undecided = undecided; asked = record { low = omega arith; high = omega arith }; list = inr ((λ h. omega (arith, h)), inl (negation (below BvAdd) ∷ [], refl, inl ([], refl, refl))) }
 
 last-list : IsFinal p 4 entries (negation (binary BvUge (number 3) (word 1)) ∷ [])
 unfolding chain chain_of
-last-list = record { winner = Existential; played = played; won = inl refl; counted = refl; list = refl }
+last-list = record { winner = Existential; played = played; won = inl refl; counted = refl; list = goal }

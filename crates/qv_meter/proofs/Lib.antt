@@ -16,5 +16,6 @@ mod GreatestGame
 mod ThreeLevelsGame
 pub mod Keeping
 pub mod Linking
+pub mod Standing
 pub mod Differing
 pub mod Working

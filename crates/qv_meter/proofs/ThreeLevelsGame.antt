@@ -10,11 +10,13 @@ use Rattle.qv_words.specs.Sort.{IsValueOf}
 use Rattle.qv_words.specs.Prenex.{binary, negation}
 use Rattle.qv_words.specs.Inverse.{inverse_term}
 use Rattle.qv_words.specs.Choice.{candidates, with_term, IsTrueAt}
+use Rattle.qv_words.specs.Passes.{rules_in_order}
 use Rattle.qv_words.specs.Problem.{Problem, Place, Existential, Universal}
 use Rattle.qv_words.specs.Linked.{Entry, IsEntry, IsLink, IsPlaceBelow, Run, IsRun, chain, chain_of}
+use Rattle.qv_rewrite_passes.specs.declared.pass.Pass.TheVariants.{By}
 use Rattle.qv_meter.specs.Played.{IsFresh, IsPlayed}
 use Rattle.qv_meter.specs.Queries.{query_list}
-use Rattle.qv_meter.specs.Finals.{final_list}
+use Rattle.qv_meter.specs.Finals.{IsFinalList}
 use Rattle.qv_meter.specs.Units.{IsFinal, Query, Final}
 use Rattle.qv_meter.specs.Records.{lane_count, position_of}
 use Rattle.qv_meter.proofs.Following.{follows-newest, follows-none}
@@ -51,9 +53,9 @@ term : chain p (inner ∷ middle ∷ outer ∷ []) ≡ record { place = 1; term 
 unfolding chain chain_of
 term = refl
 
-goal : final_list p Existential (inner ∷ middle ∷ outer ∷ []) ≡ negation (binary BvUle (binary BvAnd (number 0) (word 2)) (word 0)) ∷ []
+goal : IsFinalList p Existential (inner ∷ middle ∷ outer ∷ []) (negation (binary BvUle (binary BvAnd (number 0) (word 2)) (word 0)) ∷ [])
 unfolding chain chain_of
-goal = refl
+goal = (map By rules_in_order, refl)
 
 -- The entries may come where they do.
 no-z-helps : (point values : List ℕ) → AllZip (λ (v : ℕ) (place : Place). IsValueOf v place.sort) point (record { quantifier = Universal; sort = Bits 2 } ∷ record { quantifier = Existential; sort = Bits 2 } ∷ []) → AllZip IsValueOf values (Bits 2 ∷ []) → IsTrueAt point (fixed 1 0) → (k : ℕ) × IsSomeAnd (slice_get (p.matrix ∷ []) k) (λ t. IsTrueAt (point ++ values) t)
@@ -172,4 +174,4 @@ nothing-else e other h = other (h.2.1.follows 0 inner refl refl refl)
 
 last-list : IsFinal p 3 (inner ∷ middle ∷ outer ∷ []) (negation (binary BvUle (binary BvAnd (number 0) (word 2)) (word 0)) ∷ [])
 unfolding chain chain_of
-last-list = record { winner = Existential; played = played; won = inl refl; counted = refl; list = refl }
+last-list = record { winner = Existential; played = played; won = inl refl; counted = refl; list = goal }

@@ -45,6 +45,13 @@ AreAsked p entries winner level formulas =
     ((level ≡ block_count p + 1) × IsBehind (query_list p entries winner level) formulas)
     ⊎ ((level ≢ block_count p + 1) × AreDenied (entries_of level winner entries) formulas)
 
+-- what a lane has in a query list's place: behind the last block the list behind some passes, and
+-- at another level the list itself
+abbrev pub StandsForQuery : Problem → List Entry → Quantifier → ℕ → List Tree → Type 0
+StandsForQuery p entries winner level formulas =
+    ((level ≡ block_count p + 1) × IsBehind (query_list p entries winner level) formulas)
+    ⊎ ((level ≢ block_count p + 1) × (formulas ≡ query_list p entries winner level))
+
 -- what one more entry puts behind a query list
 abbrev pub query_for : Problem → Entry → Quantifier → ℕ → List Tree
 query_for p e winner level =
