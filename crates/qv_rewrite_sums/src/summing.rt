@@ -180,7 +180,8 @@ fn raw_sum(
             sum_of(store, walk, sums, *a),
             sum_of(store, walk, sums, *b),
         ),
-        _ => Ok(None),
+        [] => Ok(None),
+        [_, _, _, ..] => Ok(None),
     }
 }
 

@@ -1,4 +1,3 @@
-use borrow.Author.Tests.{ltb-true, ltb-false}
 use Rattle.std.proofs.Common.{◌≡◌, ◌^◌, ℕ, List, [], ◌∷◌, ap, sym, ◌∙◌, arith}
 use Rattle.std.specs.Prelude.{option_map}
 use Rattle.qv_words.specs.Sums.{Polynomial, combined, polynomial, polynomials}
@@ -8,7 +7,6 @@ use Rattle.qv_store.proofs.Replacement.{if-ok}
 use Rattle.qv_rewrite_sums.specs.Held.{sum_at, modulo, short_raw}
 use Rattle.qv_rewrite_sums.proofs.Applying.{none-raw, many-raw}
 use Rattle.qv_rewrite_sums.proofs.summing.raw_sum.Goals as goal
-use Rattle.qv_rewrite_sums.proofs.summing.raw_sum.Goals.{in_default-via-then-kids-lt1, in_default-via-else-kids-lt1+else-kids-lt2+else-kids-lt3}
 
 pub returns-in-len1 : goal.returns-in-len1
 returns-in-len1 c =
@@ -34,9 +32,8 @@ returns-in-len2 c =
     ∙ ap (λ (ks : List ℕ). polynomials (trees_at trees ks)) (sym kids) in
     if-ok c.of_two.result (λ made e. e ∙ ap (λ (ps : List Polynomial). option_map (modulo n) (short_raw (combined c.args.op c.args.width ps))) same) (c.of_two.ensures trees)
 
-pub returns-in_default : goal.returns-in_default
-returns-in_default c =
-    elim c.in_default.branch [
-      | in_default-via-then-kids-lt1 w ↦ none-raw c.args.store.now c.args.op c.args.width c.args.kids.now (omega (arith, ltb-true))
-      | in_default-via-else-kids-lt1+else-kids-lt2+else-kids-lt3 w ↦ many-raw c.args.store.now c.args.op c.args.width c.args.kids.now (omega (arith, ltb-false))
-    ]
+pub returns-in-empty : goal.returns-in-empty
+returns-in-empty c = none-raw c.args.store.now c.args.op c.args.width c.args.kids.now (omega (arith, c.in-empty.len_below))
+
+pub returns-in-len3-up : goal.returns-in-len3-up
+returns-in-len3-up c = many-raw c.args.store.now c.args.op c.args.width c.args.kids.now (omega (arith, c.in-len3-up.len_at_least))
