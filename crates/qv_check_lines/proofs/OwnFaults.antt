@@ -2,7 +2,7 @@
 use Rattle.std.proofs.Common.{◌≡◌, ◌≢◌, ℕ, Bool, true, false, cond, Option, Some, None, List, [], ◌∷◌, subst, codes}
 use Rattle.std.specs.Prelude.{option_map, nat_le, Ok, Err}
 use Rattle.std.specs.Str.{bytes_eq}
-use Rattle.qv_words.specs.declared.rule.Rule.{Rule}
+use Rattle.qv_rewrite_passes.specs.declared.pass.Pass.{Pass}
 use Rattle.qv_words.specs.declared.op.Op.{Op}
 use Rattle.qv_cnf.specs.LratLine.{LratLine}
 use Rattle.qv_lrat_text.specs.Words.{words}
@@ -12,7 +12,7 @@ use Rattle.qv_cert.specs.declared.kind.RefusalKind.{RefusalKind}
 use Rattle.qv_cert.specs.declared.kind.RefusalKind.TheVariants as kind
 use Rattle.qv_cert.specs.Line.{CertLine, VariableNode, EigenNode, LiteralNode, Skolem, Instance, Eigen, Rewrite, Lrat, End}
 use Rattle.qv_cert.specs.Grammar.{Reading, or_fault, number, large_number, numbers, header, check, sort_of_width, is_value, literal_node, literal_in, at_colon, operator_node, application, one_number, two_numbers, three_numbers, read, node_line, node, rewriting, alone, behind_word, formed, outer_line, inner_line, lrat_step, cert_line}
-use Rattle.qv_words.specs.Rules.{rule_named}
+use Rattle.qv_rewrite_passes.specs.Names.{pass_named}
 
 abbrev IsOwn : Reading → Type 0
 IsOwn (Ok line) = Unit {0}
@@ -83,11 +83,11 @@ own-node (w ∷ ws) = go (number w)
 
 own-rewriting : (ws : List (List ℕ)) → OwnOption (rewriting ws)
 own-rewriting [] = tt
-own-rewriting (name ∷ []) = go (rule_named name)
+own-rewriting (name ∷ []) = go (pass_named name)
   where
-    go : (o : Option Rule) → IsOwn (or_fault kind.Rule (option_map Rewrite o))
+    go : (o : Option Pass) → IsOwn (or_fault kind.Rule (option_map Rewrite o))
     go None = λ e. cc
-    go (Some r) = tt
+    go (Some p) = tt
 own-rewriting (name ∷ x ∷ ws) = tt
 
 own-header : (o : Option CertLine) → IsOwn (or_fault kind.Header o)

@@ -1,19 +1,10 @@
 -- What a line behind the nodes of a section makes of it.
-use Rattle.std.proofs.Common.{◌≡◌, ℕ, suc, ◌<◌, true, false, Option, List, [], ◌∷◌, refl, sym, subst, length, append-nil}
-use Rattle.std.specs.Prelude.{Result, Ok, Err, IfOk, IfErr, All}
-use Rattle.std.specs.List.{AllZip, AllByRecursion}
-use Rattle.std.proofs.lemmas.List.Elements.{All-from_recursion, recursion_from_All}
+use Rattle.std.proofs.Common.{◌≡◌, ℕ, suc, true, false, Option, List, [], refl, sym, subst, append-nil}
+use Rattle.std.specs.Prelude.{Result, Ok, Err, IfOk, IfErr}
 use Rattle.qv_words.specs.declared.op.Answer.{Answer}
-use Rattle.qv_words.specs.declared.rule.Rule.{Rule}
-use Rattle.qv_words.specs.Tree.{Tree, IsQuantifierFree}
-use Rattle.qv_words.specs.Passes.{pass}
-use Rattle.qv_words.specs.PassLaws.{IsPlain, StandsFor}
-use Rattle.qv_words.proofs.PassRules.{rules-keep}
-use Rattle.qv_words.proofs.Passed.{pass-stands}
+use Rattle.qv_words.specs.Tree.{Tree}
 use Rattle.qv_cnf.specs.Refutation.{Standing}
-use Rattle.qv_store.specs.Nodes.{tree_at}
-use Rattle.qv_store.specs.Stores.{AreShared, Grows}
-use Rattle.qv_store.specs.Walks.{named}
+use Rattle.qv_store.specs.Stores.{Grows}
 use Rattle.qv_store.proofs.Replacement.{grows-more}
 use Rattle.qv_cert.specs.declared.kind.RefusalKind.{RefusalKind}
 use Rattle.qv_cert.specs.declared.kind.RefusalKind.TheVariants as kind
@@ -27,28 +18,6 @@ use Rattle.qv_check_lines.specs.Judging.{ComesTo, IsVerdictFrom, IsNextLine, kin
 use Rattle.qv_check_lines.specs.Refusing.{IsRefusal}
 use Rattle.qv_check_lines.specs.Rewriting.{IsLed, state_with}
 use Rattle.qv_check_lines.proofs.Judged.{comes-further, comes-on, is-refused, no-memory}
-
--- ---- formulas without quantifiers stay such
-
-plain-there : (trees : List Tree) (ids : List ℕ) → AreShared trees → AllByRecursion (λ id. id < length trees) ids → AllByRecursion (λ id. IsQuantifierFree (tree_at trees id)) ids → AllByRecursion IsPlain (named trees ids)
-plain-there trees [] shared below free = tt
-plain-there trees (id ∷ ids) shared below free = (record { sorted = shared.sorted id below.0; free = free.0 }, plain-there trees ids shared below.1 free.1)
-
-free-of : (us ts : List Tree) → AllZip StandsFor us ts → AllByRecursion IsQuantifierFree us
-free-of [] ts h = tt
-free-of (u ∷ us) [] h = absurd h
-free-of (u ∷ us) (t ∷ ts) h = (h.0.plain.free, free-of us ts h.1)
-
-free-named : (trees : List Tree) (ids : List ℕ) → AllByRecursion IsQuantifierFree (named trees ids) → AllByRecursion (λ id. IsQuantifierFree (tree_at trees id)) ids
-free-named trees [] h = tt
-free-named trees (id ∷ ids) h = (h.0, free-named trees ids h.1)
-
-pub free-passed : (rule : Rule) (old new : List Tree) (ids more : List ℕ) → AreShared old → All (λ id. id < length old) ids → All (λ id. IsQuantifierFree (tree_at old id)) ids
-    → named new more ≡ pass rule (named old ids) → All (λ id. IsQuantifierFree (tree_at new id)) more
-free-passed rule old new ids more shared below free e =
-    let plain = plain-there old ids shared (recursion_from_All (λ id. id < length old) ids below) (recursion_from_All (λ id. IsQuantifierFree (tree_at old id)) ids free) in
-    let passed = free-of (pass rule (named old ids)) (named old ids) (pass-stands (rules-keep (λ a b. refl) (λ a b. refl)) rule (named old ids) plain) in
-    All-from_recursion (λ id. IsQuantifierFree (tree_at new id)) more (free-named new more (subst (AllByRecursion IsQuantifierFree) (sym e) passed))
 
 -- ---- by the answer for the line
 

@@ -1,4 +1,4 @@
-//! The last parts of a section, while it is read: the rules that rewrite its formulas, and the
+//! The last parts of a section, while it is read: the passes that rewrite its formulas, and the
 //! refutation of their clauses, with what the parts before share: lines, and verdicts.
 #![tactic(auto)]
 

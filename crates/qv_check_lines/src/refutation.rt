@@ -1,4 +1,4 @@
-//! The last parts of a section: the rules that rewrite its formulas, and the refutation of their
+//! The last parts of a section: the passes that rewrite its formulas, and the refutation of their
 //! clauses.
 
 ghost use Rattle.std.specs.Prelude.{◌≡◌, ◌≤◌, ◌<◌, None, All, length};
@@ -49,7 +49,7 @@ pub fn check_refutation<S: Source>(
     }
 }
 
-/// Reads further rules that rewrite formulas, and then the refutation of the clauses of what they
+/// Reads further passes that rewrite formulas, and then the refutation of the clauses of what they
 /// leave, up to the section's end, and says how the section of this answer ends.
 #[tactic(auto, using(crate::proofs::Ended::ends_later))]
 pub fn check_rewriting<S: Source>(

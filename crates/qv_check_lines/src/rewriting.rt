@@ -4,10 +4,10 @@ ghost use Rattle.std.specs.Prelude.{◌≡◌, ◌≤◌, ◌<◌, None, All, If
 ghost use Rattle.qv_io.specs.Source.{TellsAsBefore};
 ghost use Rattle.qv_words.specs.declared.op.Answer.{Answer};
 ghost use Rattle.qv_words.specs.Tree.{IsQuantifierFree};
-ghost use Rattle.qv_words.specs.Passes.{pass};
 ghost use Rattle.qv_store.specs.Nodes.{tree_at};
 ghost use Rattle.qv_store.specs.Stores.{Grows};
 ghost use Rattle.qv_store.specs.Walks.{named};
+ghost use Rattle.qv_rewrite_passes.specs.Passes.{behind};
 ghost use Rattle.qv_cert.specs.CertReader.{to_give, piece_size};
 ghost use Rattle.qv_cert.specs.LineView.{cert_line_of};
 ghost use Rattle.qv_cert.specs.Section.{Task, Refuting, Rewriting};
@@ -20,30 +20,29 @@ use crate::verdict::Verdict;
 use qv_cert::{CertReader, Line, RefusalKind};
 use qv_cert_formulas::checker_of;
 use qv_io::Source;
-use qv_rewrite::pass;
+use qv_rewrite_lists::take;
+use qv_rewrite_passes::Pass;
 use qv_rup::Checker;
 use qv_store::{Id, NoMemory, Store};
-use qv_words::Rule;
 use std::alloc::Global;
 
-// Rewrites the formulas by a rule's pass.
+// Rewrites the formulas by a pass.
 fn rewrite(
     alloc: Global,
     store: &mut Store,
     formulas: &mut Vec<Id>,
-    rule: Rule,
+    pass: Pass,
 ) -> Result<(), NoMemory>
     requires below { All (λ id. id < length store.old) formulas.old.items }
     requires free { All (λ id. IsQuantifierFree (tree_at store.old id)) formulas.old.items }
     ensures passed { OnOk result (named store.new formulas.new.items
-        ≡ pass rule (named store.old formulas.old.items)) }
+        ≡ behind pass (named store.old formulas.old.items)) }
     ensures below { OnOk result (All (λ id. id < length store.new) formulas.new.items) }
     ensures free { OnOk result (All (λ id. IsQuantifierFree (tree_at store.new id))
         formulas.new.items) }
     ensures grows { Grows store.old store.new }
 {
-    let _nodes = store.len();
-    *formulas = pass(alloc, store, rule, formulas)?;
+    *formulas = take(alloc, store, pass, formulas)?;
     Ok(())
 }
 
@@ -68,7 +67,7 @@ pub fn take_line(
     ensures grows { Grows store.old store.new }
 {
     match &next.line {
-        Line::Rewrite { rule } => match rewrite(alloc, store, formulas, *rule) {
+        Line::Rewrite { pass } => match rewrite(alloc, store, formulas, *pass) {
             Ok(()) => Ok(None),
             Err(_) => Err(Verdict::NoMemory),
         },
