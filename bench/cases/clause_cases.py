@@ -843,16 +843,16 @@ def models(clauses, assumptions=()):
 
 
 class Deciding:
-    """A search by the rules of decisions: assumptions first, then the most active variable, among equals that of the least number,
-    with its last value, true at first. Before the first conflict it descends three times from the greatest variable down and learns
-    nothing: as it stands, then with all outputs false (the greatest variables of clauses of at least two literals) and inputs true,
-    then with all false; and then all are true. Each conflict makes the variables more active that its clause and the resolved clauses
+    """A search by the rules of decisions: assumptions first, then the most active variable, among equals that of the greatest number,
+    with its last value, true at first. Before the first conflict it descends three times and learns nothing: as it stands, then
+    with all outputs false (the greatest variables of clauses of at least two literals) and inputs true, then with all false; and
+    then all are true. Each conflict makes the variables more active that its clause and the resolved clauses
     have, but for those of level 0, by a number that grows by a nineteenth. Clauses propagate in any order. No search goes on
     to the tenth conflict, behind which there may be a restart."""
 
-    def __init__(self, clauses, assumptions, rounds, raises=True, keeps=True, minimises=True, least=True, turns=True):
+    def __init__(self, clauses, assumptions, rounds, raises=True, keeps=True, minimises=True):
         self.clauses, self.assumptions, self.rounds = [list(dict.fromkeys(c)) for c in clauses], assumptions, rounds
-        self.raises, self.keeps, self.minimises, self.least, self.turns = raises, keeps, minimises, least, turns
+        self.raises, self.keeps, self.minimises = raises, keeps, minimises
         self.variables = max([0] + [abs(lit) for clause in list(clauses) + [list(assumptions)] for lit in clause])
         self.activity, self.last, self.increment = [0] * (self.variables + 1), [True] * (self.variables + 1), 2 ** 20
         self.trail, self.level, self.reason, self.present = [], {}, {}, 0
@@ -906,7 +906,7 @@ class Deciding:
             del self.level[abs(lit)], self.reason[abs(lit)]
         self.present = level
 
-    def descend(self, down=False):
+    def descend(self):
         """A false clause, or none and the model; neither where an assumption is false."""
         while True:
             conflict = self.propagate()
@@ -917,7 +917,7 @@ class Deciding:
             if lit is None and not free:
                 return None, sorted(self.trail, key=abs)
             if lit is None:
-                variable = max(free) if down else min(free, key=lambda v: (-self.activity[v], v if self.least else -v))
+                variable = min(free, key=lambda v: (-self.activity[v], -v))
                 lit = variable if self.last[variable] else -variable
             elif -lit in self.trail:
                 return None, None
@@ -931,7 +931,7 @@ class Deciding:
         for values in (None, (True, False), (False, False)):
             if values:
                 self.aim(*values)
-            conflict, model = self.descend(down=self.turns)
+            conflict, model = self.descend()
             if conflict is None:
                 return model
             self.back_to(0)
@@ -1066,10 +1066,9 @@ def core_tables():
         ([[4, 3, 2, 1]], ()), ([[1, 2, 3], [-3, 4], [-3, -4, 2]], ()), ([[1, 2]], (1,)), ([[1, 2, 3]], (2,)), ([[1, 2, 3]], (3, -1)),
         ([[-1, 2], [-2, 3]], (1,)), ([[5]], ()), (pigeons(3, 3), ()), (ring(6), ()), (ring(6), (1,)),
     ]
-    note("The most active variable without a value is decided, among equals that of the least number, with its last value, true at",
-         "first, and assumptions are the first decisions. Before the first conflict there are three descents from the greatest variable",
-         "down that learn nothing: as it stands, with outputs false and inputs true, and with all false. Outputs are the greatest",
-         "variables of clauses of two or more.")
+    note("The most active variable without a value is decided, among equals that of the greatest number, with its last value, true at",
+         "first, and assumptions are the first decisions. Before the first conflict there are three descents that learn nothing: as it",
+         "stands, with outputs false and inputs true, and with all false. Outputs are the greatest variables of clauses of two or more.")
     while len(decisions) < 40:
         variables = ROUNDS.randrange(3, 9)
         clauses = [random_clause(ROUNDS, variables, 3) for _ in range(ROUNDS.randrange(3, 3 * variables))]
@@ -1086,12 +1085,10 @@ def core_tables():
 
 
 def policies():
-    """Cases whose models show that activity rises, that values are kept, and which way descents and the search go."""
+    """Cases whose models show that activity rises, and that values are kept."""
     rounds = random.Random(20261128)
     for text, rules in (("Without activity another model would be found.", {"raises": False}),
-                        ("Were true always first, another model would be found.", {"keeps": False}),
-                        ("Were the greatest of equally active variables first, another model would be found.", {"least": False}),
-                        ("Were the least first in all descents, another model would be found.", {"turns": False})):
+                        ("Were true always first, another model would be found.", {"keeps": False})):
         note(text)
         shown = 0
         while shown < 3:

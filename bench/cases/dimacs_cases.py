@@ -195,22 +195,21 @@ def small():
 
 
 def learning():
-    """The first conflict, whatever order clauses propagate in: variables are decided from the least number on, as true. Where 10 is
-    true or 9 is false there is a conflict too, and both are outputs. So none of the descents that learn nothing, from the greatest
-    number down, finds a model: in the first 10 is true, in the others outputs are false."""
+    """The first conflict, whatever order clauses propagate in: variables are decided from the greatest number on, as true. Where 2 is
+    false there is a conflict too, so none of the descents that learn nothing finds a model: each but the first has outputs false."""
     for text, clauses, learnt in (
-        ("Where 2 and 4 are true the last two clauses are at odds. -3 came of 2 alone: 3 is left out.",
-         [[-2, -3], [-2, -4, -5], [3, -4, 5]], [-2, -4]),
-        ("1 and 3 are true. -2 came of 1 and of -5, which is true at the start: 2 is left out.",
-         [[-5], [-1, -2, 5], [-1, -3, -4], [2, -3, 4]], [-1, -3]),
-        ("Where 1, 2 and 4 are true the last two are at odds. -3 came of 1 and of 2, which isn't in the clause: 3 stays.",
-         [[-1, -2, -3], [-1, -4, -5], [3, -4, 5]], [-1, 3, -4]),
-        ("-3 came of -2, which came of 1: both are in the last two, and both are left out.",
-         [[-1, -2], [2, -3], [-1, -4, 2, -5], [-4, 3, 5]], [-1, -4]),
-        ("-3 came of -2 and -2 of 1, but 2 isn't in the last two: 3 stays.",
-         [[-1, -2], [2, -3], [-1, -4, -5], [-4, 3, 5]], [-1, 3, -4]),
+        ("Where 6 and 4 are true the last two clauses are at odds. -5 came of 6 alone: 5 is left out.",
+         [[-6, -5], [-6, -4, -3], [5, -4, 3]], [-4, -6]),
+        ("7 and 5 are true. -6 came of 7 and of -3, which is true at the start: 6 is left out.",
+         [[-3], [-7, -6, 3], [-7, -5, -4], [6, -5, 4]], [-5, -7]),
+        ("Where 7, 6 and 4 are true the last two are at odds. -5 came of 7 and of 6, which isn't in the clause: 5 stays.",
+         [[-7, -6, -5], [-7, -4, -3], [5, -4, 3]], [-4, 5, -7]),
+        ("-5 came of -6, which came of 7: both are in the last two, and both are left out.",
+         [[-7, -6], [6, -5], [-7, -4, 6, -3], [-4, 5, 3]], [-4, -7]),
+        ("-5 came of -6 and -6 of 7, but 6 isn't in the last two: 5 stays.",
+         [[-7, -6], [6, -5], [-7, -4, -3], [-4, 5, 3]], [-4, 5, -7]),
     ):
-        clauses = [[9, 8], [9, -8], [-10, 9], [-10, -9]] + clauses
+        clauses = [[2, 1], [2, -1]] + clauses
         note(text)
         LINES.extend(dimacs(clauses))
         ask("solve 10", "satisfiable" if has_model(clauses) else "unsatisfiable")
