@@ -16,7 +16,7 @@ constexpr unsigned HEAD = 3, DEAD = ~0u;
 
 struct Watch { Place clause; Lit blocking; };  // the clause's place is doubled, and one more where it has two literals
 
-// Variables by activity: the most active is taken first, and of equal ones that of the least number. What is new counts for
+// Variables by activity: the most active is taken first, and of equal ones that of the greatest number. What is new counts for
 // more at each conflict, by a nineteenth; where that comes to 2^58, all is divided by 2^38.
 struct Order {
     std::vector<Number> activity;
@@ -28,7 +28,7 @@ struct Order {
         for (unsigned variable = 0; variable < count; variable++) insert(variable);
     }
 
-    bool before(unsigned a, unsigned b) const { return activity[a] > activity[b] || (activity[a] == activity[b] && a < b); }
+    bool before(unsigned a, unsigned b) const { return activity[a] > activity[b] || (activity[a] == activity[b] && a > b); }
 
     void put(unsigned variable, int at) { heap[at] = variable; position[variable] = at; }
 
@@ -327,30 +327,20 @@ struct Solver {
         waste = 0;
     }
 
-    // Decides the variable with its last value, if it has none.
-    bool take(unsigned variable) {
-        if (value[2 * variable]) return false;
-        levels.push_back(trail.size());
-        assign(2 * variable + !last[variable], NONE);
-        return true;
-    }
-
     bool decide() {
-        while (!order.heap.empty()) if (take(order.pop())) return true;
+        while (!order.heap.empty()) {
+            unsigned variable = order.pop();
+            if (value[2 * variable]) continue;
+            levels.push_back(trail.size());
+            assign(2 * variable + !last[variable], NONE);
+            return true;
+        }
         return false;
     }
 
-    // Decides the next variable below this one, which is lowered to it.
-    bool decide_below(unsigned& below) {
-        while (below > 0) if (take(--below)) return true;
-        return false;
-    }
-
-    // Descends once, from the greatest variable down. Where that comes to a conflict above level 0, the answer is 0: it is taken
-    // back, and nothing is learnt.
+    // Descends once. Where that comes to a conflict above level 0, the answer is 0: it is taken back, and nothing is learnt.
     int attempt() {
-        unsigned below = last.size();
-        while (!propagate()) if (!decide_below(below)) return 10;
+        while (!propagate()) if (!decide()) return 10;
         if (levels.empty()) return 20;
         back_to(0);
         return 0;

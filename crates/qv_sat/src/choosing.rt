@@ -14,7 +14,7 @@ use qv_sat_order::Order;
 use qv_watch::Trail;
 use std::alloc::{AllocError, Global};
 
-// The variables that may be decided, the most active first or the greatest first.
+// The variables that may be decided, the most active first.
 #[derive(Drop)]
 pub(crate) struct Chooser {
     pub(crate) order: Order,
@@ -23,11 +23,6 @@ pub(crate) struct Chooser {
     // Whether a clause of at least two literals has each of them as the greatest: so are the outputs
     // of gates, and inputs aren't.
     outputs: Vec<bool>,
-    // The greatest variable that a descent which learns nothing has yet to look at, or 0 in the
-    // search. Such a descent goes downwards, and not by the order: so outputs of gates are set before
-    // their inputs, and values of chains of comparisons are found at once. The search's order begins
-    // with the least: the first steps of a design that was unrolled.
-    pub(crate) below: u32,
 }
 
 impl Chooser {
@@ -38,7 +33,6 @@ impl Chooser {
             order: Order::new(alloc),
             signs: Vec::new(alloc),
             outputs: Vec::new(alloc),
-            below: 0,
         }
     }
 
@@ -103,8 +97,7 @@ impl Chooser {
         self.order.decay();
     }
 
-    // The first variable without a value, with its last sign: in a descent that learns nothing the
-    // greatest, else the most active, which is then no longer held.
+    // The first variable without a value, with its last sign. It is no longer held.
     pub(crate) fn next(&mut self, trail: &Trail) -> Option<Lit>
         requires most { length self.old.order.held ≤ 2 ^ 30 }
         requires covers { Covers self.old.order.held trail.now.entries }
@@ -115,30 +108,8 @@ impl Chooser {
             CoversBut lit.variable self.new.order.held trail.now.entries) }
         ensures none { IfNone result (AllValued self.new.order.held trail.now.entries) }
     {
-        if let Some(lit) = self.next_below(trail) {
-            return Some(lit);
-        }
         while let Some(variable) = self.order.pop() {
             let lit = self.signed(variable);
-            if trail.value(lit).is_none() {
-                return Some(lit);
-            }
-        }
-        None
-    }
-
-    // The greatest variable without a value that a descent has yet to look at, with its last sign. It
-    // stays held.
-    fn next_below(&mut self, trail: &Trail) -> Option<Lit>
-        requires { length self.old.order.held ≤ 2 ^ 30 }
-        ensures order { self.new.order ≡ self.old.order }
-        ensures within { IfSome result (IsWithin (length self.old.order.held)) }
-        ensures free { IfSome result (λ lit. value_of trail.now.entries lit ≡ None) }
-    {
-        self.below = self.below.min(self.order.variables());
-        'down: while self.below > 0 {
-            let lit = self.signed(self.below);
-            self.below -= 1;
             if trail.value(lit).is_none() {
                 return Some(lit);
             }

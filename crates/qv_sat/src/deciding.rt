@@ -1,4 +1,4 @@
-//! Decisions: the assumptions first, then the variable that is chosen, with its last value.
+//! Decisions: the assumptions first, then the most active variable, with its last value.
 
 ghost use Rattle.std.specs.Prelude.{◌≡◌, ◌≢◌, ◌+◌, ◌<◌, ◌≤◌, ◌^◌, ℕ, true, false, None, Some, Ok};
 ghost use Rattle.std.specs.Prelude.{IfOk, IfSome, IfNone, length, min, slice_get};

@@ -248,8 +248,8 @@ impl Solver {
         }
     }
 
-    // Descends once, from the greatest variable down. Where a clause becomes false on the way, nothing
-    // is learnt: all is taken back, and inputs and outputs get these values as their last.
+    // Descends once. Where a clause becomes false on the way, nothing is learnt: all is taken back, and
+    // inputs and outputs get these values as their last.
     fn attempt(
         &mut self,
         assumptions: &[Lit],
@@ -271,16 +271,14 @@ impl Solver {
         ensures answer { IfOk result (λ o. IfSome o
             (AnswersOn self.new.trail.clauses assumptions.now self.new.variables)) }
     {
-        self.chooser.below = self.variables;
         let reached = descend(
             self.alloc,
             &mut self.trail,
             &mut self.chooser,
             assumptions,
             self.variables,
-        );
-        self.chooser.below = 0;
-        if let Reached::Answer(outcome) = reached? {
+        )?;
+        if let Reached::Answer(outcome) = reached {
             return Ok(Some(outcome));
         }
         self.backtrack();

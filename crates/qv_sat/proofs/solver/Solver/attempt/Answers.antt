@@ -3,8 +3,8 @@ use Rattle.qv_cnf.specs.LratLine.{lines_of}
 use Rattle.qv_sat.proofs.Holdings.{IsHeld-trail}
 use Rattle.qv_sat.proofs.solver.Solver.attempt.Goals as goal
 
-pub descend-reached-requires-clause-ready : goal.descend-reached-requires-clause-ready
-descend-reached-requires-clause-ready c = record {
+pub descend-requires-clause-ready : goal.descend-requires-clause-ready
+descend-requires-clause-ready c = record {
   room = c.requires.held.room;
   most = c.requires.held.most;
   clauses = c.requires.held.literals;
@@ -15,4 +15,4 @@ descend-reached-requires-clause-ready c = record {
 pub backtrack-requires-clause-held : goal.backtrack-requires-clause-held
 backtrack-requires-clause-held c =
     let s = c.args.self.now in
-    IsHeld-trail s.base (lines_of s.steps.items) s.trail c.descend-reached.new.trail s.top s.variables s.refuted c.requires.held (c.descend-reached.ensures.ready.room ∙ sym c.requires.held.room) c.descend-reached.ensures.clauses
+    IsHeld-trail s.base (lines_of s.steps.items) s.trail c.descend.new.trail s.top s.variables s.refuted c.requires.held (c.descend.ensures.ready.room ∙ sym c.requires.held.room) c.descend.ensures.clauses
