@@ -96,7 +96,7 @@ module _ (nodes : List ℕ) (held : List Bool) (activity : List ℕ) (t : IsTour
       let same = ap (rank_of activity) leaf.1 in
       omega arith
 
-  rank_some : (w : ℕ) → 1 ≤ w → rank_of activity w ≡ activity_of activity w * 2 ^ 32 + (2 ^ 32 - w)
+  rank_some : (w : ℕ) → 1 ≤ w → rank_of activity w ≡ activity_of activity w * 2 ^ 32 + w
   rank_some w from = rw (ne_eqb w 0 (omega arith)) refl
 
   pub none_held : entrant_at nodes held 1 ≡ 0 → (v : ℕ) → 1 ≤ v → is_held held v ≡ false
@@ -169,7 +169,7 @@ module _ (nodes : List ℕ) (held : List Bool) (activity : List ℕ) (t : IsTour
         let wide = t.drawn.same in
         let is : activity_of raised v ≡ x = get_or-set_same activity (v - 1) x 0 (omega arith) in
         let old = rank_some v from in
-        let new : rank_of raised v ≡ activity_of raised v * 2 ^ 32 + (2 ^ 32 - v) = rw (ne_eqb v 0 (omega arith)) refl in
+        let new : rank_of raised v ≡ activity_of raised v * 2 ^ 32 + v = rw (ne_eqb v 0 (omega arith)) refl in
         omega arith
 
     -- it still wins where it did

@@ -17,9 +17,9 @@ is_held held v = slice_index_or held (v - 1) false
 abbrev pub activity_of : List ℕ → ℕ → ℕ
 activity_of activity v = slice_index_or activity (v - 1) 0
 
--- one variable comes before another where it is more active, or as active and of a smaller number
+-- one variable comes before another where it is more active, or as active and of a greater number
 abbrev pub ComesBefore : List ℕ → ℕ → ℕ → Type 0
-ComesBefore activity v w = (activity_of activity w < activity_of activity v) ⊎ ((activity_of activity w ≡ activity_of activity v) × (v < w))
+ComesBefore activity v w = (activity_of activity w < activity_of activity v) ⊎ ((activity_of activity w ≡ activity_of activity v) × (w < v))
 
 -- a variable that is held and comes before each other one that is
 pub record IsFirst (r : Ranking) (v : ℕ) : Type 0 where

@@ -13,7 +13,7 @@ entrant_at nodes held place = if nat_lt place (length nodes) then slice_index_or
 
 -- a number that is greater the earlier the variable comes, and 0 for none
 abbrev pub rank_of : List ℕ → ℕ → ℕ
-rank_of activity v = if v == 0 then 0 else activity_of activity v * 2 ^ 32 + (2 ^ 32 - v)
+rank_of activity v = if v == 0 then 0 else activity_of activity v * 2 ^ 32 + v
 
 abbrev pub first_of : List ℕ → ℕ → ℕ → ℕ
 first_of activity v w = if nat_lt (rank_of activity v) (rank_of activity w) then w else v

@@ -14,7 +14,7 @@ const LIMIT: u64 = 1 << 58;
 const SCALE: u64 = 1 << 38;
 
 /// Some of the variables from 1 on, of which the first is taken: the most active, and among equals
-/// that of the least number. It is a tournament: a change is walked up from the variable's leaf only
+/// that of the greatest number. It is a tournament: a change is walked up from the variable's leaf only
 /// as far as winners change, and takes no memory.
 #[derive(Debug, Drop)]
 pub struct Order {
@@ -78,13 +78,6 @@ impl Order {
         self.activity.resize(width, 0)?;
         play(&mut self.nodes, &self.held, &self.activity);
         Ok(())
-    }
-
-    /// The greatest variable that there is room for.
-    pub fn variables(&self) -> u32
-        ensures { result ≡ length self.now.held }
-    {
-        self.held.len() as u32
     }
 
     /// Holds a variable.

@@ -5,7 +5,7 @@ ghost use Rattle.qv_sat_order.specs.Tournament.{entrant_at, first_of, rank_of, A
 ghost use Rattle.qv_sat_order.specs.Tournament.{ArePlayedFrom, IsDrawn, StandsUpTo};
 
 // Whether the first variable comes behind the second: it is less active, or as active and of a
-// greater number. No variable is last.
+// smaller number. No variable is last.
 fn is_behind(activity: &[u64], one: u32, other: u32) -> bool
     requires one { one ≤ length activity.now }
     requires other { other ≤ length activity.now }
@@ -20,7 +20,7 @@ fn is_behind(activity: &[u64], one: u32, other: u32) -> bool
     }
     let active = activity[one as usize - 1];
     let bound = activity[other as usize - 1];
-    active < bound || (active == bound && other < one)
+    active < bound || (active == bound && one < other)
 }
 
 // The variable at a place, or 0 for none.
