@@ -109,6 +109,8 @@ struct Solver {
     std::vector<Lit> trail;
     std::vector<size_t> levels;
     size_t head = 0;
+    bool in_turn = false;   // variables are decided in turn, those before `passed` aren't open
+    unsigned passed = 0;
     Order order;
     Restarts restarts;
     std::vector<Place> learnt, resolved;
@@ -138,6 +140,7 @@ struct Solver {
             trail.pop_back();
             value[lit] = value[lit ^ 1] = 0;
             last[lit >> 1] = !(lit & 1);
+            passed = std::min(passed, lit >> 1);
             order.insert(lit >> 1);
         }
         levels.resize(count);
@@ -327,15 +330,28 @@ struct Solver {
         waste = 0;
     }
 
+    // Decides a variable, with its last value. Answers whether it was open.
+    bool take(unsigned variable) {
+        if (value[2 * variable]) return false;
+        levels.push_back(trail.size());
+        assign(2 * variable + !last[variable], NONE);
+        return true;
+    }
+
     bool decide() {
-        while (!order.heap.empty()) {
-            unsigned variable = order.pop();
-            if (value[2 * variable]) continue;
-            levels.push_back(trail.size());
-            assign(2 * variable + !last[variable], NONE);
-            return true;
-        }
+        while (in_turn && passed < last.size()) if (take(passed++)) return true;
+        while (!order.heap.empty()) if (take(order.pop())) return true;
         return false;
+    }
+
+    // From 500 to 2,500 conflicts variables are decided in turn, from the least. Answers whether that begins or ends.
+    bool turns() {
+        bool now = 500 <= restarts.conflicts && restarts.conflicts < 2500;
+        if (now == in_turn) return false;
+        in_turn = now;
+        passed = 0;
+        restarts.last = restarts.conflicts;
+        return true;
     }
 
     // Descends once. Where that comes to a conflict above level 0, the answer is 0: it is taken back, and nothing is learnt.
@@ -365,7 +381,7 @@ struct Solver {
                 learn(analyse(conflict));
                 continue;
             }
-            if (restarts.due(trail.size())) { restarted++; back_to(0); }
+            if (turns() || restarts.due(trail.size())) { restarted++; back_to(0); }
             if (restarts.conflicts >= reduce_at) reduce();
             if (!decide()) return 10;
         }
