@@ -30,6 +30,7 @@ bvsdivo:BvSdivo""".split():
 RULES = {b"fold": "Fold", b"same": "Same", b"not-not": "NotNot", b"unit": "Unit", b"absorb": "Absorb",
          b"ite-known": "IteKnown", b"ite-same": "IteSame", b"add-zero": "AddZero", b"mul-one": "MulOne",
          b"mul-zero": "MulZero"}
+PASSES = {name: f"By({variant})" for name, variant in RULES.items()} | {b"sum": "Sum"}
 
 
 # ---- the grammar
@@ -116,7 +117,7 @@ def outer(text):
     if words[0] == b"w":
         if len(words) != 2:
             return "form"
-        return (f"Rewrite {{ rule: {RULES[words[1]]} }}", b" ".join(words)) if words[1] in RULES else "rule"
+        return (f"Rewrite {{ pass: {PASSES[words[1]]} }}", b" ".join(words)) if words[1] in PASSES else "rule"
     if words[0] == b"n" and words[2:3] == [b"o"]:
         return application(words)
     found = re.fullmatch(rb"n " + N + rb" c " + N + rb" " + N, b" ".join(words), re.DOTALL)
@@ -334,9 +335,10 @@ for text in [b"n 1 o bvfoo : 1", b"n 1 o Not : 1", b"n 1 o no : 1", b"n 1 o nott
              b"n 1 c : 1", b"n 1 v :"]:
     one(text)
 note("rules")
-for word in list(RULES) + [b"melt", b"Fold", b"fol", b"folds", b"not_not", b"notnot", b"unit ", b"add-one", b"mul", b"", b"1",
-                           b"fold same", b"\xff", b"fold\n", b"w"]:
+for word in list(PASSES) + [b"melt", b"Fold", b"fol", b"folds", b"not_not", b"notnot", b"unit ", b"add-one", b"mul", b"", b"1",
+                            b"fold same", b"\xff", b"fold\n", b"w", b"su", b"summ", b"sums", b"Sum", b"sum\n", b"sum fold"]:
     one(b"w " + word)
+both(b"w sum")
 
 # ---- prefixes, and each byte changed
 

@@ -3,8 +3,8 @@
 asserted formulas.
 
 The verdicts are computed here from the rules of certificates and not by the program: lines by the grammar of
-bench/cases/cert_cases.py, problems by bench/cases/prenex_cases.py, passes by bench/cases/rewrite_cases.py, clause lists by bench/cases/blast_cases.py
-and refutations by bench/cases/clause_cases.py. Accepted sections are made by brute force over the values of small problems, and
+bench/cases/cert_cases.py, problems by bench/cases/prenex_cases.py, passes by bench/cases/rewrite_cases.py and
+bench/cases/sum_cases.py, clause lists by bench/cases/blast_cases.py and refutations by bench/cases/clause_cases.py. Accepted sections are made by brute force over the values of small problems, and
 refutations by cases; others are these with something changed.
 
 `check NUMBER GIVE TERM;TERM;..|CERT` reads line 1 and then a section for the formulas, from a source that gives at most GIVE
@@ -22,6 +22,7 @@ from circuit_cases import TooMany
 from prenex_cases import CONSTANTS, LEVELS, LIMIT, holds, problem, value
 from rewrite_cases import RULES, passed
 from rows import shown, write_rows
+from sum_cases import summed
 from tree_cases import app, bind, is_named, leaf, named, put_in, show, sort_of
 from word_cases import rank
 
@@ -60,6 +61,12 @@ def to_passes(t):
 
 def from_passes(t):
     return leaf(t) if isinstance(t, str) else (t[0], tuple(map(from_passes, t[1])))
+
+
+def behind(name, formulas):
+    """The formulas behind the pass of this name."""
+    rule = "".join(part.capitalize() for part in name.split("-"))
+    return [from_passes(summed(to_passes(t)) if name == "sum" else passed(rule, to_passes(t))) for t in formulas]
 
 
 def clauses_of(formulas):
@@ -208,8 +215,7 @@ class Section:
 
     def rewriting(self, words):
         if words[0] == "w":
-            rule = "".join(part.capitalize() for part in words[1].split("-"))
-            self.formulas = [from_passes(passed(rule, to_passes(t))) for t in self.formulas]
+            self.formulas = behind(words[1], self.formulas)
             return None
         if words[0] != "lrat":
             return "Form"
@@ -392,8 +398,7 @@ def closed(writer, formulas, version, rules):
     """The end of a section, behind its nodes."""
     for rule in rules if version == 2 else []:
         writer.lines.append(f"w {rule}")
-        named_so = "".join(part.capitalize() for part in rule.split("-"))
-        formulas = [from_passes(passed(named_so, to_passes(t))) for t in formulas]
+        formulas = behind(rule, formulas)
     writer.lines += ["lrat", *refutation(formulas), "end"]
     return "".join(line + "\n" for line in writer.lines).encode()
 
@@ -594,6 +599,8 @@ end
 GREATEST = [bind("Ex", 0, 2, bind("All", 1, 2, app("bvuge", X, Y)))]
 SMALLEST = "qbv-cert 1\ncheck 1 sat\nlrat\n3 0 1 2 0\nend\n"
 SUCCESSOR = [bind("All", 0, 2, bind("Ex", 1, 2, app("=", Y, app("bvadd", X, leaf("2:1")))))]
+DISTRIBUTED = [bind("All", 0, 2, bind("All", 1, 2, app("=", app("bvmul", X, app("bvadd", X, Y)), app("bvadd", app("bvmul", Y, X), app("bvmul", X, X)))))]
+ODD = [bind("Ex", 0, 2, app("=", app("bvadd", app("bvmul", X, leaf("2:2")), leaf("2:1")), leaf("2:0")))]
 
 
 def with_line(cert, number, *lines):
@@ -644,6 +651,13 @@ def by_hand():
     for rule in ["fold", "same", "not-not", "unit", "absorb", "ite-known", "ite-same", "add-zero", "mul-one", "mul-zero", "melt"]:
         row([], f"qbv-cert 2\ncheck 1 sat\nw {rule}\nlrat\n3 0 1 2 0\nend\n")
     row([], "qbv-cert 2\ncheck 1 sat\nw fold\nn 1 c 2 0\nlrat\n3 0 1 2 0\nend\n")
+    note("The pass of sums.")
+    for name in ["sum", "su", "summ", "sums"]:
+        row([], f"qbv-cert 2\ncheck 1 sat\nw {name}\nlrat\n3 0 1 2 0\nend\n")
+    for formulas, begin in [(DISTRIBUTED, "check 1 sat\n"), (ODD, "check 1 unsat\ne 1 0\n")]:
+        for lines in ["w sum\n", "", "w fold\n", "w fold\nw sum\nw same\n"]:
+            row(formulas, f"qbv-cert 2\n{begin}{lines}lrat\n3 0 1 2 0\nend\n")
+        row(formulas, f"qbv-cert 1\n{begin}w sum\nlrat\n3 0 1 2 0\nend\n")
     note("An unknown section.")
     for cert in ["qbv-cert 1\ncheck 1 unknown\nend\n", "qbv-cert 2\ncheck 1 unknown\nlrat\nend\n", "qbv-cert 1\ncheck 1 unknown\nn 1 c 2 0\nend\n",
                  "qbv-cert 2\ncheck 1 unknown\nw melt\nend\n", "qbv-cert 2\ncheck 1 unknown\nw fold\nend\n", "qbv-cert 1\ncheck 2 unknown\nend\n",

@@ -271,6 +271,10 @@ def by_hand():
     row("(check-sat)", HEAD + "check 1 unsat\nlrat\nend\n")
     for line in "-5 -6 0 -3 0", "-5 -6 0 0", "-5 -6 0 -1 0", "-5 -6 0 -3 -3 7 0", "-5 -6 0 -3 -4 0", "-5 6 0 -3 0", "-6 -5 0 -3 0":
         row("(check-sat)", HEAD + "check 1 sat\nlrat\n3 5 6 0 0\n4 " + line + "\n5 0 1 2 0\nend\n")
+    note("What the pass of sums makes false, and the pass by a rule doesn't.")
+    odd = "(declare-fun x () (_ BitVec 2))(assert (= (bvadd (bvmul x #b10) #b01) #b00))(check-sat)"
+    for lines in ["w sum\n", "", "w fold\n"]:
+        row(odd, f"qbv-cert 2\ncheck 1 unsat\ne 1 0\n{lines}lrat\n3 0 1 2 0\nend\n")
     note("A prefix that is too long is a fault of the script, and its section isn't read.")
     many = "".join(f"(declare-const a{n} Bool)" for n in range(4))
     doubled = "(forall ((x Bool)) x)"

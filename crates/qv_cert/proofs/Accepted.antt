@@ -7,8 +7,8 @@ use Rattle.std.proofs.lemmas.List.Elements.{All-nil, All-cons}
 use Rattle.qv_words.specs.declared.op.Answer.{Answer}
 use Rattle.qv_words.specs.declared.op.Answer.TheVariants.{Sat, Unsat, Unknown}
 use Rattle.qv_words.specs.Tree.{Tree}
-use Rattle.qv_words.specs.declared.rule.Rule.{Rule}
-use Rattle.qv_words.specs.Passes.{pass, passes_by}
+use Rattle.qv_rewrite_passes.specs.declared.pass.Pass.{Pass}
+use Rattle.qv_rewrite_passes.specs.Passes.{behind as behind_pass, behind_all}
 use Rattle.qv_cnf.specs.LratLine.{LratLine, Addition, Deletion}
 use Rattle.qv_cnf.specs.Refutation.{Judgement, Accepted, OutOfOrder, RatAt, FailsAt, LeftOpen, Standing, standing_at, judged_line, after_line, accepts, has_none, refutes_from, Refutes}
 use Rattle.qv_cert.specs.declared.kind.RefusalKind.{RefusalKind}
@@ -137,17 +137,17 @@ few-from formulas e = few (variables_of formulas) (2 ^ 30) e
 
 -- the lines from the first `w` line on
 pub record IsRewritten (formulas : List Tree) (answer : Answer) (n m : ℕ) (a : Answer) (lines behind : List (List ℕ)) : Type 0 where
-  pub rules : List Rule
+  pub passes : List Pass
   pub steps : List LratLine
   pub outer : List (List ℕ)
   pub inner : List (List ℕ)
   pub lines_are : lines ≡ outer ++ (inner ++ behind)
   pub next_is : m ≡ n + (length outer + length inner)
-  pub outer_are : AreRead false outer (map Rewrite rules ++ Lrat ∷ [])
+  pub outer_are : AreRead false outer (map Rewrite passes ++ Lrat ∷ [])
   pub inner_are : AreRead true inner (map Step steps ++ End ∷ [])
   pub answer_is : answer ≡ a
-  pub few : variables_of (passes_by rules formulas) ≤ 2 ^ 30
-  pub refutes : Refutes (clause_list (passes_by rules formulas)) steps
+  pub few : variables_of (behind_all passes formulas) ≤ 2 ^ 30
+  pub refutes : Refutes (clause_list (behind_all passes formulas)) steps
 
 -- `lrat` and what follows
 at-lrat : (task : Task) (formulas : List Tree) (answer a : Answer) (n m : ℕ) (text : List ℕ) (lines behind : List (List ℕ)) → cert_line false text ≡ Ok Lrat
@@ -156,7 +156,7 @@ at-lrat : (task : Task) (formulas : List Tree) (answer a : Answer) (n m : ℕ) (
 at-lrat task formulas answer a n m text lines behind e few is =
     let h = refuted-lines task lines (standing_at (clause_list formulas)) answer a (suc n) m behind is in
     record {
-      rules = [];
+      passes = [];
       steps = h.steps;
       outer = text ∷ [];
       inner = h.inner;
@@ -170,16 +170,16 @@ at-lrat task formulas answer a n m text lines behind e few is =
     }
 
 -- a `w` line in front
-at-rule : (rule : Rule) (formulas : List Tree) (answer a : Answer) (n m : ℕ) (text : List ℕ) (lines behind : List (List ℕ)) → cert_line false text ≡ Ok (Rewrite rule)
-    → IsRewritten (pass rule formulas) answer (suc n) m a lines behind → IsRewritten formulas answer n m a (text ∷ lines) behind
-at-rule rule formulas answer a n m text lines behind e h = record {
-  rules = rule ∷ h.rules;
+at-pass : (p : Pass) (formulas : List Tree) (answer a : Answer) (n m : ℕ) (text : List ℕ) (lines behind : List (List ℕ)) → cert_line false text ≡ Ok (Rewrite p)
+    → IsRewritten (behind_pass p formulas) answer (suc n) m a lines behind → IsRewritten formulas answer n m a (text ∷ lines) behind
+at-pass p formulas answer a n m text lines behind e h = record {
+  passes = p ∷ h.passes;
   steps = h.steps;
   outer = text ∷ h.outer;
   inner = h.inner;
   lines_are = ap (λ (xs : List (List ℕ)). text ∷ xs) h.lines_are;
   next_is = omega (arith, h.next_is);
-  outer_are = read-more false text (Rewrite rule) h.outer (map Rewrite h.rules ++ Lrat ∷ []) e h.outer_are;
+  outer_are = read-more false text (Rewrite p) h.outer (map Rewrite h.passes ++ Lrat ∷ []) e h.outer_are;
   inner_are = h.inner_are;
   answer_is = h.answer_is;
   few = h.few;
@@ -191,7 +191,7 @@ rewritten-line : (task : Task) (formulas : List Tree) (answer a : Answer) (n m :
     → (r : Reading) → cert_line false text ≡ r
     → by_outcome n lines (λ next. judged_from task next (suc n) lines) (by_reading task (Rewriting answer formulas) r) ≡ AcceptedUpTo a m behind
     → IsRewritten formulas answer n m a (text ∷ lines) behind
-rewritten-line task formulas answer a n m text lines behind hyp (Ok (Rewrite rule)) e is = at-rule rule formulas answer a n m text lines behind e (hyp (pass rule formulas) is)
+rewritten-line task formulas answer a n m text lines behind hyp (Ok (Rewrite p)) e is = at-pass p formulas answer a n m text lines behind e (hyp (behind_pass p formulas) is)
 rewritten-line task formulas answer a n m text lines behind hyp (Ok Lrat) e is =
     let both = unless-clear n m a lines behind (λ next. judged_from task next (suc n) lines) (refuting answer formulas) (first_fit ((kind.Variables, has_too_many formulas) ∷ [])) is in
     let c = clear ((kind.Variables, has_too_many formulas) ∷ []) both.0 in
@@ -210,28 +210,28 @@ rewritten-lines task (text ∷ lines) formulas answer a n m behind is =
 
 pub record IsListed (task : Task) (l : Listed) (answer : Answer) (n m : ℕ) (a : Answer) (lines behind : List (List ℕ)) : Type 0 where
   pub given : List CertLine
-  pub rules : List Rule
+  pub passes : List Pass
   pub steps : List LratLine
   pub outer : List (List ℕ)
   pub inner : List (List ℕ)
   pub lines_are : lines ≡ outer ++ (inner ++ behind)
   pub next_is : m ≡ n + (length outer + length inner)
-  pub outer_are : AreRead false outer (given ++ (map Rewrite rules ++ Lrat ∷ []))
+  pub outer_are : AreRead false outer (given ++ (map Rewrite passes ++ Lrat ∷ []))
   pub inner_are : AreRead true inner (map Step steps ++ End ∷ [])
   pub answer_is : answer ≡ a
   pub belong : All (λ line. IsTrue (belongs answer line)) given
   pub lawful : HaveNoFault task.problem l given
-  pub version : (rules ≡ []) ⊎ (task.version ≡ 2)
+  pub version : (passes ≡ []) ⊎ (task.version ≡ 2)
   pub complete : is_missing task.problem answer (listed_behind task.problem l given) ≡ false
-  pub few : variables_of (passes_by rules (first_list task.problem answer (listed_behind task.problem l given))) ≤ 2 ^ 30
-  pub refutes : Refutes (clause_list (passes_by rules (first_list task.problem answer (listed_behind task.problem l given)))) steps
+  pub few : variables_of (behind_all passes (first_list task.problem answer (listed_behind task.problem l given))) ≤ 2 ^ 30
+  pub refutes : Refutes (clause_list (behind_all passes (first_list task.problem answer (listed_behind task.problem l given)))) steps
 
 -- from `lrat` or the first `w` line on
 all-given : (task : Task) (l : Listed) (answer a : Answer) (n m : ℕ) (lines behind : List (List ℕ)) → is_missing task.problem answer l ≡ false
-    → (h : IsRewritten (first_list task.problem answer l) answer n m a lines behind) → (h.rules ≡ []) ⊎ (task.version ≡ 2) → IsListed task l answer n m a lines behind
+    → (h : IsRewritten (first_list task.problem answer l) answer n m a lines behind) → (h.passes ≡ []) ⊎ (task.version ≡ 2) → IsListed task l answer n m a lines behind
 all-given task l answer a n m lines behind complete h version = record {
   given = [];
-  rules = h.rules;
+  passes = h.passes;
   steps = h.steps;
   outer = h.outer;
   inner = h.inner;
@@ -256,13 +256,13 @@ one-given task l answer a n m text line lines behind e clean h =
     let c = clear ((kind.Form, not (belongs answer line)) ∷ faults_of task.problem l line) clean in
     record {
       given = line ∷ h.given;
-      rules = h.rules;
+      passes = h.passes;
       steps = h.steps;
       outer = text ∷ h.outer;
       inner = h.inner;
       lines_are = ap (λ (xs : List (List ℕ)). text ∷ xs) h.lines_are;
       next_is = omega (arith, h.next_is);
-      outer_are = read-more false text line h.outer (h.given ++ (map Rewrite h.rules ++ Lrat ∷ [])) e h.outer_are;
+      outer_are = read-more false text line h.outer (h.given ++ (map Rewrite h.passes ++ Lrat ∷ [])) e h.outer_are;
       inner_are = h.inner_are;
       answer_is = h.answer_is;
       belong = All-cons (λ x. IsTrue (belongs answer x)) line h.given (passes (belongs answer line) c.0) h.belong;
@@ -284,12 +284,12 @@ listed-line task l answer a n m text lines behind hyp (Ok Lrat) e is =
     let both = unless-clear n m a lines behind (λ next. judged_from task next (suc n) lines) (refuting answer formulas) (first_fit ((kind.Missing, is_missing task.problem answer l) ∷ (kind.Variables, has_too_many (first_list task.problem answer l)) ∷ [])) is in
     let c = clear ((kind.Missing, is_missing task.problem answer l) ∷ (kind.Variables, has_too_many (first_list task.problem answer l)) ∷ []) both.0 in
     all-given task l answer a n m (text ∷ lines) behind c.0 (at-lrat task formulas answer a n m text lines behind e c.1.0 both.1) (inl refl)
-listed-line task l answer a n m text lines behind hyp (Ok (Rewrite rule)) e is =
+listed-line task l answer a n m text lines behind hyp (Ok (Rewrite p)) e is =
     let formulas = first_list task.problem answer l in
-    let both = unless-clear n m a lines behind (λ next. judged_from task next (suc n) lines) (GoesOn (Rewriting answer (pass rule (first_list task.problem answer l)))) (first_fit ((kind.Form, not (task.version == 2)) ∷ (kind.Missing, is_missing task.problem answer l) ∷ [])) is in
+    let both = unless-clear n m a lines behind (λ next. judged_from task next (suc n) lines) (GoesOn (Rewriting answer (behind_pass p (first_list task.problem answer l)))) (first_fit ((kind.Form, not (task.version == 2)) ∷ (kind.Missing, is_missing task.problem answer l) ∷ [])) is in
     let c = clear ((kind.Form, not (task.version == 2)) ∷ (kind.Missing, is_missing task.problem answer l) ∷ []) both.0 in
     all-given task l answer a n m (text ∷ lines) behind c.1.0
-    (at-rule rule formulas answer a n m text lines behind e (rewritten-lines task lines (pass rule formulas) answer a (suc n) m behind both.1))
+    (at-pass p formulas answer a n m text lines behind e (rewritten-lines task lines (behind_pass p formulas) answer a (suc n) m behind both.1))
     (inr (eqb-true task.version 2 (passes (task.version == 2) c.0)))
 listed-line task l answer a n m text lines behind hyp (Ok line) e is =
     let both = unless-clear n m a lines behind (λ next. judged_from task next (suc n) lines) (GoesOn (Listing answer (listing task.problem l line))) (first_fit ((kind.Form, not (belongs answer line)) ∷ faults_of task.problem l line)) is in

@@ -9,8 +9,8 @@ use Rattle.qv_words.specs.declared.op.Answer.TheVariants.{Sat, Unsat, Unknown}
 use Rattle.qv_words.specs.Tree.{Tree}
 use Rattle.qv_words.specs.Problem.{Problem, Place, Quantifier, Existential, Universal}
 use Rattle.qv_words.specs.Skolem.{term_of}
-use Rattle.qv_words.specs.declared.rule.Rule.{Rule}
-use Rattle.qv_words.specs.Passes.{pass, passes_by}
+use Rattle.qv_rewrite_passes.specs.declared.pass.Pass.{Pass}
+use Rattle.qv_rewrite_passes.specs.Passes.{behind as behind_pass, behind_all}
 use Rattle.qv_cnf.specs.LratLine.{LratLine, Addition, Deletion}
 use Rattle.qv_cnf.specs.Refutation.{Standing, standing_at, judged_line, after_line, accepts, adds_none, has_none, refutes_from, Refutes}
 use Rattle.qv_cert.specs.declared.kind.RefusalKind.TheVariants as kind
@@ -87,9 +87,9 @@ few-enough formulas h = go (variables_of formulas) (2 ^ 30) h
     go : (v limit : ℕ) → v ≤ limit → nat_lt limit v ≡ false
     go v limit h = grind (arith, nat_tests)
 
-rewriting-lines : (task : Task) (rules : List Rule) (formulas : List Tree) (answer : Answer) (n : ℕ) (outer inner behind : List (List ℕ)) (steps : List LratLine)
-    → AreRead false outer (map Rewrite rules ++ Lrat ∷ []) → AreRead true inner (map Step steps ++ End ∷ [])
-    → variables_of (passes_by rules formulas) ≤ 2 ^ 30 → Refutes (clause_list (passes_by rules formulas)) steps
+rewriting-lines : (task : Task) (passes : List Pass) (formulas : List Tree) (answer : Answer) (n : ℕ) (outer inner behind : List (List ℕ)) (steps : List LratLine)
+    → AreRead false outer (map Rewrite passes ++ Lrat ∷ []) → AreRead true inner (map Step steps ++ End ∷ [])
+    → variables_of (behind_all passes formulas) ≤ 2 ^ 30 → Refutes (clause_list (behind_all passes formulas)) steps
     → judged_from task (Rewriting answer formulas) n (outer ++ (inner ++ behind)) ≡ AcceptedUpTo answer (n + (length outer + length inner)) behind
 unfolding judged_from
 rewriting-lines task [] formulas answer n [] inner behind steps e f few h = absurd cc
@@ -100,12 +100,12 @@ rewriting-lines task [] formulas answer n (text ∷ []) inner behind steps e f f
     (ap (refused_or (refuting answer formulas)) (cleared ((kind.Variables, has_too_many formulas) ∷ []) (few-enough formulas few, tt)))
     (refuting-lines task steps (standing_at (clause_list formulas)) answer (suc n) inner behind f h ∙ ap (λ (m : ℕ). AcceptedUpTo answer m behind) number)
 rewriting-lines task [] formulas answer n (text ∷ second ∷ outer) inner behind steps e f few h = absurd cc
-rewriting-lines task (rule ∷ rules) formulas answer n [] inner behind steps e f few h = absurd cc
-rewriting-lines task (rule ∷ rules) formulas answer n (text ∷ outer) inner behind steps e f few h =
-    let line = first-read false text outer (Rewrite rule) (map Rewrite rules ++ Lrat ∷ []) e in
+rewriting-lines task (p ∷ passes) formulas answer n [] inner behind steps e f few h = absurd cc
+rewriting-lines task (p ∷ passes) formulas answer n (text ∷ outer) inner behind steps e f few h =
+    let line = first-read false text outer (Rewrite p) (map Rewrite passes ++ Lrat ∷ []) e in
     let number : suc n + (length outer + length inner) ≡ n + (length (text ∷ outer) + length inner) = omega arith in
-    goes-on task (Rewriting answer formulas) (Rewriting answer (pass rule formulas)) false n text (Rewrite rule) (outer ++ (inner ++ behind)) (AcceptedUpTo answer (n + (length (text ∷ outer) + length inner)) behind) line.0 refl
-    (rewriting-lines task rules (pass rule formulas) answer (suc n) outer inner behind steps line.1 f few h ∙ ap (λ (m : ℕ). AcceptedUpTo answer m behind) number)
+    goes-on task (Rewriting answer formulas) (Rewriting answer (behind_pass p formulas)) false n text (Rewrite p) (outer ++ (inner ++ behind)) (AcceptedUpTo answer (n + (length (text ∷ outer) + length inner)) behind) line.0 refl
+    (rewriting-lines task passes (behind_pass p formulas) answer (suc n) outer inner behind steps line.1 f few h ∙ ap (λ (m : ℕ). AcceptedUpTo answer m behind) number)
 
 -- ---- the lines that list
 
@@ -117,12 +117,12 @@ does-list task answer l Lrat b e = absurd (no-lrat answer b)
     no-lrat Sat b = absurd cc
     no-lrat Unsat b = absurd cc
     no-lrat Unknown b = absurd cc
-does-list task answer l (Rewrite rule) b e = absurd (no-rule answer b)
+does-list task answer l (Rewrite p) b e = absurd (no-pass answer b)
   where
-    no-rule : (a : Answer) → belongs a (Rewrite rule) ≡ true → ⊥
-    no-rule Sat b = absurd cc
-    no-rule Unsat b = absurd cc
-    no-rule Unknown b = absurd cc
+    no-pass : (a : Answer) → belongs a (Rewrite p) ≡ true → ⊥
+    no-pass Sat b = absurd cc
+    no-pass Unsat b = absurd cc
+    no-pass Unknown b = absurd cc
 does-list task answer l line b e =
     ap (refused_or (GoesOn (Listing answer (listing task.problem l line))))
     (cleared ((kind.Form, not (belongs answer line)) ∷ faults_of task.problem l line) (ap not b, clear (faults_of task.problem l line) e))
@@ -130,12 +130,12 @@ does-list task answer l line b e =
 same-number : (n : ℕ) → (n == n) ≡ true
 same-number n = grind (arith, nat_tests)
 
-listing-lines : (task : Task) (given : List CertLine) (l : Listed) (rules : List Rule) (answer : Answer) (n : ℕ) (outer inner behind : List (List ℕ)) (steps : List LratLine)
-    → AreRead false outer (given ++ (map Rewrite rules ++ Lrat ∷ [])) → AreRead true inner (map Step steps ++ End ∷ [])
-    → AllByRecursion (λ line. IsTrue (belongs answer line)) given → HaveNoFault task.problem l given → (rules ≡ []) ⊎ (task.version ≡ 2)
+listing-lines : (task : Task) (given : List CertLine) (l : Listed) (passes : List Pass) (answer : Answer) (n : ℕ) (outer inner behind : List (List ℕ)) (steps : List LratLine)
+    → AreRead false outer (given ++ (map Rewrite passes ++ Lrat ∷ [])) → AreRead true inner (map Step steps ++ End ∷ [])
+    → AllByRecursion (λ line. IsTrue (belongs answer line)) given → HaveNoFault task.problem l given → (passes ≡ []) ⊎ (task.version ≡ 2)
     → is_missing task.problem answer (listed_behind task.problem l given) ≡ false
-    → variables_of (passes_by rules (first_list task.problem answer (listed_behind task.problem l given))) ≤ 2 ^ 30
-    → Refutes (clause_list (passes_by rules (first_list task.problem answer (listed_behind task.problem l given)))) steps
+    → variables_of (behind_all passes (first_list task.problem answer (listed_behind task.problem l given))) ≤ 2 ^ 30
+    → Refutes (clause_list (behind_all passes (first_list task.problem answer (listed_behind task.problem l given)))) steps
     → judged_from task (Listing answer l) n (outer ++ (inner ++ behind)) ≡ AcceptedUpTo answer (n + (length outer + length inner)) behind
 unfolding judged_from
 listing-lines task [] l [] answer n [] inner behind steps e f belong clean version complete few h = absurd cc
@@ -148,23 +148,23 @@ listing-lines task [] l [] answer n (text ∷ []) inner behind steps e f belong 
     (cleared ((kind.Missing, is_missing task.problem answer l) ∷ (kind.Variables, has_too_many (first_list task.problem answer l)) ∷ []) (complete, (few-enough formulas few, tt))))
     (refuting-lines task steps (standing_at (clause_list (first_list task.problem answer l))) answer (suc n) inner behind f h ∙ ap (λ (m : ℕ). AcceptedUpTo answer m behind) number)
 listing-lines task [] l [] answer n (text ∷ second ∷ outer) inner behind steps e f belong clean version complete few h = absurd cc
-listing-lines task [] l (rule ∷ rules) answer n [] inner behind steps e f belong clean version complete few h = absurd cc
-listing-lines task [] l (rule ∷ rules) answer n (text ∷ outer) inner behind steps e f belong clean (inl none) complete few h = absurd cc
-listing-lines task [] l (rule ∷ rules) answer n (text ∷ outer) inner behind steps e f belong clean (inr two) complete few h =
-    let line = first-read false text outer (Rewrite rule) (map Rewrite rules ++ Lrat ∷ []) e in
+listing-lines task [] l (p ∷ passes) answer n [] inner behind steps e f belong clean version complete few h = absurd cc
+listing-lines task [] l (p ∷ passes) answer n (text ∷ outer) inner behind steps e f belong clean (inl none) complete few h = absurd cc
+listing-lines task [] l (p ∷ passes) answer n (text ∷ outer) inner behind steps e f belong clean (inr two) complete few h =
+    let line = first-read false text outer (Rewrite p) (map Rewrite passes ++ Lrat ∷ []) e in
     let number : suc n + (length outer + length inner) ≡ n + (length (text ∷ outer) + length inner) = omega arith in
     let version : not (task.version == 2) ≡ false = ap (λ (v : ℕ). not (v == 2)) two in
-    goes-on task (Listing answer l) (Rewriting answer (pass rule (first_list task.problem answer l))) false n text (Rewrite rule) (outer ++ (inner ++ behind)) (AcceptedUpTo answer (n + (length (text ∷ outer) + length inner)) behind) line.0
-    (ap (refused_or (GoesOn (Rewriting answer (pass rule (first_list task.problem answer l)))))
+    goes-on task (Listing answer l) (Rewriting answer (behind_pass p (first_list task.problem answer l))) false n text (Rewrite p) (outer ++ (inner ++ behind)) (AcceptedUpTo answer (n + (length (text ∷ outer) + length inner)) behind) line.0
+    (ap (refused_or (GoesOn (Rewriting answer (behind_pass p (first_list task.problem answer l)))))
     (cleared ((kind.Form, not (task.version == 2)) ∷ (kind.Missing, is_missing task.problem answer l) ∷ []) (version, (complete, tt))))
-    (rewriting-lines task rules (pass rule (first_list task.problem answer l)) answer (suc n) outer inner behind steps line.1 f few h ∙ ap (λ (m : ℕ). AcceptedUpTo answer m behind) number)
-listing-lines task (line ∷ given) l rules answer n [] inner behind steps e f belong clean version complete few h = absurd cc
-listing-lines task (line ∷ given) l rules answer n (text ∷ outer) inner behind steps e f belong clean version complete few h =
-    let parts = first-read false text outer line (given ++ (map Rewrite rules ++ Lrat ∷ [])) e in
+    (rewriting-lines task passes (behind_pass p (first_list task.problem answer l)) answer (suc n) outer inner behind steps line.1 f few h ∙ ap (λ (m : ℕ). AcceptedUpTo answer m behind) number)
+listing-lines task (line ∷ given) l passes answer n [] inner behind steps e f belong clean version complete few h = absurd cc
+listing-lines task (line ∷ given) l passes answer n (text ∷ outer) inner behind steps e f belong clean version complete few h =
+    let parts = first-read false text outer line (given ++ (map Rewrite passes ++ Lrat ∷ [])) e in
     let number : suc n + (length outer + length inner) ≡ n + (length (text ∷ outer) + length inner) = omega arith in
     goes-on task (Listing answer l) (Listing answer (listing task.problem l line)) false n text line (outer ++ (inner ++ behind)) (AcceptedUpTo answer (n + (length (text ∷ outer) + length inner)) behind) parts.0
     (does-list task answer l line belong.0 clean.0)
-    (listing-lines task given (listing task.problem l line) rules answer (suc n) outer inner behind steps parts.1 f belong.1 clean.1 version complete few h ∙ ap (λ (m : ℕ). AcceptedUpTo answer m behind) number)
+    (listing-lines task given (listing task.problem l line) passes answer (suc n) outer inner behind steps parts.1 f belong.1 clean.1 version complete few h ∙ ap (λ (m : ℕ). AcceptedUpTo answer m behind) number)
 
 -- ---- terms for all existential places
 
@@ -200,19 +200,19 @@ checked task answer n text lines end e rest =
 listed-proof : (task : Task) (answer : Answer) (n : ℕ) (text : List ℕ) (outer behind : List (List ℕ)) (texts : List (List ℕ)) (h : IsProof task answer texts) → h.outer ≡ text ∷ outer
     → judged_from task (Listing answer nothing) (suc n) (outer ++ (h.inner ++ behind)) ≡ AcceptedUpTo answer (suc n + (length outer + length h.inner)) behind
 listed-proof task answer n text outer behind texts h is =
-    let read = first-read false text outer (Check task.number answer) (h.given ++ (map Rewrite h.rules ++ Lrat ∷ []))
-    (subst (λ (xs : List (List ℕ)). AreRead false xs (Check task.number answer ∷ (h.given ++ (map Rewrite h.rules ++ Lrat ∷ [])))) is h.outer_are) in
-    listing-lines task h.given nothing h.rules answer (suc n) outer h.inner behind h.steps read.1 h.inner_are (recursion_from_All (λ line. IsTrue (belongs answer line)) h.given h.belong) h.lawful h.version
+    let read = first-read false text outer (Check task.number answer) (h.given ++ (map Rewrite h.passes ++ Lrat ∷ []))
+    (subst (λ (xs : List (List ℕ)). AreRead false xs (Check task.number answer ∷ (h.given ++ (map Rewrite h.passes ++ Lrat ∷ [])))) is h.outer_are) in
+    listing-lines task h.given nothing h.passes answer (suc n) outer h.inner behind h.steps read.1 h.inner_are (recursion_from_All (λ line. IsTrue (belongs answer line)) h.given h.belong) h.lawful h.version
     (not-missing task.problem answer (listed_by task.problem h.given) h.listed) h.few h.refutes
 
 proof-accepted : (task : Task) (answer : Answer) (n : ℕ) (behind texts : List (List ℕ)) → opened answer ≡ Listing answer nothing → (h : IsProof task answer texts) → (outer : List (List ℕ)) → h.outer ≡ outer
     → judged_from task Opening n (texts ++ behind) ≡ AcceptedUpTo answer (n + length texts) behind
 proof-accepted task answer n behind texts opens h [] is =
-    let read : AreRead false [] (Check task.number answer ∷ (h.given ++ (map Rewrite h.rules ++ Lrat ∷ []))) = subst (λ (xs : List (List ℕ)). AreRead false xs (Check task.number answer ∷ (h.given ++ (map Rewrite h.rules ++ Lrat ∷ [])))) is h.outer_are in
+    let read : AreRead false [] (Check task.number answer ∷ (h.given ++ (map Rewrite h.passes ++ Lrat ∷ []))) = subst (λ (xs : List (List ℕ)). AreRead false xs (Check task.number answer ∷ (h.given ++ (map Rewrite h.passes ++ Lrat ∷ [])))) is h.outer_are in
     absurd cc
 proof-accepted task answer n behind texts opens h (text ∷ outer) is =
-    let read = first-read false text outer (Check task.number answer) (h.given ++ (map Rewrite h.rules ++ Lrat ∷ []))
-    (subst (λ (xs : List (List ℕ)). AreRead false xs (Check task.number answer ∷ (h.given ++ (map Rewrite h.rules ++ Lrat ∷ [])))) is h.outer_are) in
+    let read = first-read false text outer (Check task.number answer) (h.given ++ (map Rewrite h.passes ++ Lrat ∷ []))
+    (subst (λ (xs : List (List ℕ)). AreRead false xs (Check task.number answer ∷ (h.given ++ (map Rewrite h.passes ++ Lrat ∷ [])))) is h.outer_are) in
     let whole : texts ≡ text ∷ (outer ++ h.inner) = h.texts_are ∙ ap (λ (xs : List (List ℕ)). xs ++ h.inner) is in
     let lengths : length (outer ++ h.inner) ≡ length outer + length h.inner = length-append outer h.inner in
     let number : suc n + (length outer + length h.inner) ≡ n + length (text ∷ (outer ++ h.inner)) = omega (arith, lengths) in

@@ -28,6 +28,9 @@ use Rattle.qv_lrat_text.proofs.PrintedLemmas.{no_blank, words-word, decimal-digi
 use Rattle.qv_lrat_text.proofs.LineLemmas.{lrat_line-spelling, without_lf-line}
 use Rattle.qv_cert.specs.declared.kind.RefusalKind.TheVariants as kind
 use Rattle.qv_words.specs.Rules.{name_of_rule, rule_named}
+use Rattle.qv_rewrite_passes.specs.declared.pass.Pass.{Pass}
+use Rattle.qv_rewrite_passes.specs.declared.pass.Pass.TheVariants.{By, Sum}
+use Rattle.qv_rewrite_passes.specs.Names.{name_of_pass, pass_named}
 use Rattle.qv_cert.specs.Line.{CertLine, Header, Check, VariableNode, EigenNode, LiteralNode, OperatorNode, Skolem, Instance, Eigen, Rewrite, Lrat, Step, End, IsCertLine, IsNumber, IsIndex}
 use Rattle.qv_cert.specs.Grammar.{number, large_number, numbers, answer_named, sort_of_width, is_value, literal_node, at_colon, application, one_number, two_numbers, three_numbers, read, node_line, node, behind_word, formed, outer_line, inner_line, lrat_step, cert_line}
 use Rattle.qv_cert.specs.Spelling.{answer_name, width_number, behind_spaces, joined, cert_text, is_step, PrintedLinesAreRead}
@@ -139,10 +142,20 @@ unfolding is_blank
 rule-word Fold = (omega arith, refl)
 rule-word _ = (omega arith, refl)
 
-rule-read : (r : Rule) → rule_named (name_of_rule r) ≡ Some r
+pass-word : (p : Pass) → IsWord (name_of_pass p)
+unfolding is_blank
+pass-word (By rule) = rule-word rule
+pass-word Sum = (omega arith, refl)
+
+rule-read : (r : Rule) → pass_named (name_of_rule r) ≡ Some (By r)
 unfolding rule_named
 rule-read Fold = refl
 rule-read _ = refl
+
+pass-read : (p : Pass) → pass_named (name_of_pass p) ≡ Some p
+unfolding rule_named
+pass-read (By rule) = rule-read rule
+pass-read Sum = refl
 
 operator-word : (o : Op) → IsWord (name_of o)
 unfolding is_blank
@@ -249,8 +262,8 @@ outer-printed (Instance n p k) h outside =
     ∙ ap (λ (o : Option CertLine). formed (read o)) (three-read Instance n p k h.0 h.1 h.2)
 outer-printed (Eigen n p) h outside =
     outer-joined (codes "e") (decimal n ∷ decimal p ∷ []) (omega arith, refl) (number-word n h.0, (number-word p h.1, tt)) ∙ ap (λ (o : Option CertLine). formed (read o)) (two-read Eigen n p h.0 h.1)
-outer-printed (Rewrite r) h outside =
-    outer-joined (codes "w") (name_of_rule r ∷ []) (omega arith, refl) (rule-word r, tt) ∙ rw (rule-read r) refl
+outer-printed (Rewrite p) h outside =
+    outer-joined (codes "w") (name_of_pass p ∷ []) (omega arith, refl) (pass-word p, tt) ∙ rw (pass-read p) refl
 outer-printed Lrat h outside = outer-joined (codes "lrat") [] (omega arith, refl) tt
 outer-printed (Step line) h outside = absurd cc
 outer-printed End h outside = outer-joined (codes "end") [] (omega arith, refl) tt

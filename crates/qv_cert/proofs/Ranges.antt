@@ -6,7 +6,7 @@ use Rattle.std.specs.Str.{bytes_eq}
 use Rattle.std.proofs.lemmas.Bool.Decides.{nat_tests}
 use Rattle.std.proofs.lemmas.List.Elements.{All-from_recursion}
 use Rattle.qv_words.specs.Sort.{IsLawful, IsValueOf, size_of}
-use Rattle.qv_words.specs.declared.rule.Rule.{Rule}
+use Rattle.qv_rewrite_passes.specs.declared.pass.Pass.{Pass}
 use Rattle.qv_words.specs.declared.op.Op.{Op}
 use Rattle.qv_words.specs.declared.op.Answer.{Answer}
 use Rattle.qv_sorts.specs.Names.{indices_of}
@@ -17,7 +17,7 @@ use Rattle.qv_lrat_text.proofs.Ranges.{bind_some, number_from-range, line_of_wor
 use Rattle.qv_cert.specs.declared.kind.RefusalKind.TheVariants as kind
 use Rattle.qv_cert.specs.Line.{CertLine, Header, Check, VariableNode, EigenNode, LiteralNode, Skolem, Instance, Eigen, Rewrite, Lrat, End, IsCertLine, IsNumber, IsIndex}
 use Rattle.qv_cert.specs.Grammar.{Reading, or_fault, number, large_number, numbers, header, answer_named, check, sort_of_width, is_value, literal_node, literal_in, at_colon, operator_node, application, one_number, two_numbers, three_numbers, read, node_line, node, rewriting, alone, behind_word, formed, outer_line, inner_line, lrat_step, cert_line}
-use Rattle.qv_words.specs.Rules.{rule_named}
+use Rattle.qv_rewrite_passes.specs.Names.{pass_named}
 use Rattle.qv_sorts.specs.Search.{indexed_operator}
 use Rattle.qv_cert.specs.Spelling.{ReadLinesAreCertLines}
 use Rattle.qv_sorts.proofs.Searching.{operators-are-found}
@@ -167,11 +167,11 @@ fine-node (w ∷ ws) = go (number w) refl
 
 fine-rewriting : (ws : List (List ℕ)) → FineOption (rewriting ws)
 fine-rewriting [] = tt
-fine-rewriting (name ∷ []) = go (rule_named name)
+fine-rewriting (name ∷ []) = go (pass_named name)
   where
-    go : (o : Option Rule) → Fine (or_fault kind.Rule (option_map Rewrite o))
+    go : (o : Option Pass) → Fine (or_fault kind.Rule (option_map Rewrite o))
     go None = tt
-    go (Some r) = tt
+    go (Some p) = tt
 fine-rewriting (name ∷ x ∷ ws) = tt
 
 fine-alone : (line : CertLine) (ws : List (List ℕ)) → IsCertLine line → FineLine (alone line ws)

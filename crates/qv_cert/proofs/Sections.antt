@@ -21,7 +21,7 @@ use Rattle.qv_cert.proofs.UnsatSections.{unsat-section}
 -- the facts on the lines that list
 listed-values : (task : Task) (answer a : Answer) (n m : ℕ) (lines behind : List (List ℕ)) → (h : IsListed task nothing answer n m a lines behind) → AllByRecursion HasValue h.given
 listed-values task answer a n m lines behind h =
-    front HasValue h.given (map Rewrite h.rules ++ Lrat ∷ []) (values-read h.outer (h.given ++ (map Rewrite h.rules ++ Lrat ∷ [])) h.outer_are)
+    front HasValue h.given (map Rewrite h.passes ++ Lrat ∷ []) (values-read h.outer (h.given ++ (map Rewrite h.passes ++ Lrat ∷ [])) h.outer_are)
 
 -- a section with a proof, behind its `check` line
 proof-text : (task : Task) (answer a : Answer) (n m : ℕ) (text : List ℕ) (lines behind : List (List ℕ)) → cert_line false text ≡ Ok (Check task.number answer)
@@ -30,12 +30,12 @@ proof-text : (task : Task) (answer a : Answer) (n m : ℕ) (text : List ℕ) (li
 proof-text task answer a n m text lines behind e h listed as_section =
     let proof : IsProof task answer (text ∷ (h.outer ++ h.inner)) = record {
       given = h.given;
-      rules = h.rules;
+      passes = h.passes;
       steps = h.steps;
       outer = text ∷ h.outer;
       inner = h.inner;
       texts_are = refl;
-      outer_are = read-more false text (Check task.number answer) h.outer (h.given ++ (map Rewrite h.rules ++ Lrat ∷ [])) e h.outer_are;
+      outer_are = read-more false text (Check task.number answer) h.outer (h.given ++ (map Rewrite h.passes ++ Lrat ∷ [])) e h.outer_are;
       inner_are = h.inner_are;
       belong = h.belong;
       lawful = h.lawful;

@@ -7,6 +7,7 @@ use Rattle.qv_words.specs.declared.op.Op.TheVariants.{Concat, Extract}
 use Rattle.qv_words.specs.declared.op.Answer.TheVariants.{Unsat}
 use Rattle.qv_words.specs.Tree.{Variable}
 use Rattle.qv_words.specs.declared.rule.Rule.TheVariants.{NotNot}
+use Rattle.qv_rewrite_passes.specs.declared.pass.Pass.TheVariants.{By, Sum}
 use Rattle.qv_words.specs.Clauses.{cnf_variables, variables_from}
 use Rattle.qv_cnf.specs.LratLine.{Deletion}
 use Rattle.qv_lrat_text.specs.Words.{words, is_blank}
@@ -36,7 +37,8 @@ lines =
     ∷ (codes "n 1 c 0 1", Ok (LiteralNode 1 BoolSort 1))
     ∷ (codes "n 7 o extract 3 0 : 2", Ok (OperatorNode 7 (Extract 3 0) (2 ∷ [])))
     ∷ (codes "n 7 o concat : 2 3", Ok (OperatorNode 7 Concat (2 ∷ 3 ∷ [])))
-    ∷ (codes "w not-not", Ok (Rewrite NotNot))
+    ∷ (codes "w not-not", Ok (Rewrite (By NotNot)))
+    ∷ (codes "w sum", Ok (Rewrite Sum))
     ∷ (codes "end", Ok End)
     ∷ (codes "qbv-cert 3", Err kind.Header)
     ∷ (codes "qbv-cert 01", Err kind.Header)
@@ -48,6 +50,7 @@ lines =
     ∷ (codes "n 1 o bvfoo : 1", Err kind.Operator)
     ∷ (codes "n 1 o extract 3 : 1", Err kind.Operator)
     ∷ (codes "w melt", Err kind.Rule)
+    ∷ (codes "w summ", Err kind.Rule)
     ∷ (codes "n 1 c 129 0", Err kind.Literal)
     ∷ (codes "n 1 c 2 4", Err kind.Literal)
     ∷ []

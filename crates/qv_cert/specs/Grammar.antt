@@ -14,7 +14,7 @@ use Rattle.qv_lrat_text.specs.Decimal.{number_from}
 use Rattle.qv_lrat_text.specs.Grammar.{◌>>=◌, line_of_words, without_lf}
 use Rattle.qv_cert.specs.declared.kind.RefusalKind.{RefusalKind}
 use Rattle.qv_cert.specs.declared.kind.RefusalKind.TheVariants as kind
-use Rattle.qv_words.specs.Rules.{rule_named}
+use Rattle.qv_rewrite_passes.specs.Names.{pass_named}
 use Rattle.qv_sorts.specs.Search.{indexed_operator}
 use Rattle.qv_cert.specs.Line.{CertLine, Header, Check, VariableNode, EigenNode, LiteralNode, OperatorNode, Skolem, Instance, Eigen, Rewrite, Lrat, Step, End}
 
@@ -153,7 +153,7 @@ node (word ∷ others) = do
 
 -- `NAME`
 abbrev pub rewriting : List (List ℕ) → Option Reading
-rewriting (name ∷ []) = Some (or_fault kind.Rule (option_map Rewrite (rule_named name)))
+rewriting (name ∷ []) = Some (or_fault kind.Rule (option_map Rewrite (pass_named name)))
 rewriting _ = None
 
 -- a line of one word

@@ -4,7 +4,7 @@ use Rattle.qv_words.specs.declared.sort.Sort.{Sort}
 use Rattle.qv_words.specs.declared.op.Op.{Op}
 use Rattle.qv_words.specs.declared.op.Answer.{Answer}
 use Rattle.qv_words.specs.Sort.{IsLawful, IsValueOf}
-use Rattle.qv_words.specs.declared.rule.Rule.{Rule}
+use Rattle.qv_rewrite_passes.specs.declared.pass.Pass.{Pass}
 use Rattle.qv_sorts.specs.Names.{indices_of}
 use Rattle.qv_cnf.specs.LratLine.{LratLine}
 use Rattle.qv_lrat_text.specs.Grammar.{IsLine}
@@ -27,7 +27,7 @@ pub data CertLine : Type 0 where
   Instance : (line parent node : ℕ) → CertLine
   Eigen : (line parent : ℕ) → CertLine
   -- the list of formulas is rewritten
-  Rewrite : (rule : Rule) → CertLine
+  Rewrite : (p : Pass) → CertLine
   -- the refutation follows, with its lines, and the section ends
   Lrat : CertLine
   Step : (line : LratLine) → CertLine
@@ -52,7 +52,7 @@ IsCertLine (OperatorNode node o children) = IsNumber node × All IsIndex (indice
 IsCertLine (Skolem place node) = IsNumber place × IsNumber node
 IsCertLine (Instance line parent node) = IsNumber line × IsNumber parent × IsNumber node
 IsCertLine (Eigen line parent) = IsNumber line × IsNumber parent
-IsCertLine (Rewrite rule) = Unit {0}
+IsCertLine (Rewrite p) = Unit {0}
 IsCertLine Lrat = Unit {0}
 IsCertLine (Step line) = IsLine line
 IsCertLine End = Unit {0}

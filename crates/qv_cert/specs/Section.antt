@@ -6,7 +6,7 @@ use Rattle.qv_words.specs.Tree.{Tree}
 use Rattle.qv_words.specs.Problem.{Problem}
 use Rattle.qv_words.specs.Skolem.{goal_of}
 use Rattle.qv_words.specs.Expansion.{leaves_of}
-use Rattle.qv_words.specs.Passes.{pass}
+use Rattle.qv_rewrite_passes.specs.Passes.{behind}
 use Rattle.qv_cnf.specs.LratLine.{LratLine}
 use Rattle.qv_cnf.specs.Refutation.{Judgement, Accepted, OutOfOrder, RatAt, FailsAt, LeftOpen, Standing, standing_at, judged_line, after_line}
 use Rattle.qv_cert.specs.declared.kind.RefusalKind.{RefusalKind}
@@ -87,18 +87,18 @@ in_listing task answer l Lrat =
     ∷ (kind.Variables, has_too_many (first_list task.problem answer l))
     ∷ [])
     (refuting answer (first_list task.problem answer l))
-in_listing task answer l (Rewrite rule) =
+in_listing task answer l (Rewrite p) =
     unless ((kind.Form, not (task.version == 2))
     ∷ (kind.Missing, is_missing task.problem answer l)
     ∷ [])
-    (GoesOn (Rewriting answer (pass rule (first_list task.problem answer l))))
+    (GoesOn (Rewriting answer (behind p (first_list task.problem answer l))))
 in_listing task answer l line =
     unless ((kind.Form, not (belongs answer line)) ∷ faults_of task.problem l line)
     (GoesOn (Listing answer (listing task.problem l line)))
 
 -- a further `w` line, or `lrat`
 abbrev pub in_rewriting : Answer → List Tree → CertLine → Outcome
-in_rewriting answer formulas (Rewrite rule) = GoesOn (Rewriting answer (pass rule formulas))
+in_rewriting answer formulas (Rewrite p) = GoesOn (Rewriting answer (behind p formulas))
 in_rewriting answer formulas Lrat = unless ((kind.Variables, has_too_many formulas) ∷ []) (refuting answer formulas)
 in_rewriting answer formulas _ = Refuses kind.Form
 

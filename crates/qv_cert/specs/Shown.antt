@@ -7,8 +7,8 @@ use Rattle.qv_words.specs.Problem.{Problem}
 use Rattle.qv_words.specs.GameLaws.{IsProblem}
 use Rattle.qv_words.specs.Skolem.{SkolemOk}
 use Rattle.qv_words.specs.Expansion.{IsExpansion}
-use Rattle.qv_words.specs.declared.rule.Rule.{Rule}
-use Rattle.qv_words.specs.Passes.{passes_by}
+use Rattle.qv_rewrite_passes.specs.declared.pass.Pass.{Pass}
+use Rattle.qv_rewrite_passes.specs.Passes.{behind_all}
 use Rattle.qv_cnf.specs.LratLine.{LratLine}
 use Rattle.qv_cnf.specs.Refutation.{Refutes}
 use Rattle.qv_cert.specs.Line.{CertLine, Check, Rewrite, Lrat, Step, End}
@@ -34,26 +34,26 @@ IsListOf p Unsat l = IsExpansion p l.lines
 IsListOf p Unknown l = ⊥
 
 -- the formulas whose clauses a section refutes
-abbrev pub last_list : Problem → Answer → List CertLine → List Rule → List Tree
-last_list p answer given rules = passes_by rules (first_list p answer (listed_by p given))
+abbrev pub last_list : Problem → Answer → List CertLine → List Pass → List Tree
+last_list p answer given passes = behind_all passes (first_list p answer (listed_by p given))
 
--- the texts are a section of a sat or unsat answer: its `check` line, the lines that list, rules,
+-- the texts are a section of a sat or unsat answer: its `check` line, the lines that list, passes,
 -- `lrat`, a refutation and `end`
 pub record IsProof (task : Task) (answer : Answer) (texts : List (List ℕ)) : Type 0 where
   pub given : List CertLine
-  pub rules : List Rule
+  pub passes : List Pass
   pub steps : List LratLine
   pub outer : List (List ℕ)
   pub inner : List (List ℕ)
   pub texts_are : texts ≡ outer ++ inner
-  pub outer_are : AreRead false outer (Check task.number answer ∷ (given ++ (map Rewrite rules ++ Lrat ∷ [])))
+  pub outer_are : AreRead false outer (Check task.number answer ∷ (given ++ (map Rewrite passes ++ Lrat ∷ [])))
   pub inner_are : AreRead true inner (map Step steps ++ End ∷ [])
   pub belong : All (λ line. IsTrue (belongs answer line)) given
   pub lawful : HaveNoFault task.problem nothing given
-  pub version : (rules ≡ []) ⊎ (task.version ≡ 2)
+  pub version : (passes ≡ []) ⊎ (task.version ≡ 2)
   pub listed : IsListOf task.problem answer (listed_by task.problem given)
-  pub few : variables_of (last_list task.problem answer given rules) ≤ 2 ^ 30
-  pub refutes : Refutes (clause_list (last_list task.problem answer given rules)) steps
+  pub few : variables_of (last_list task.problem answer given passes) ≤ 2 ^ 30
+  pub refutes : Refutes (clause_list (last_list task.problem answer given passes)) steps
 
 -- the texts are a section of the answer; an unknown one has nothing between `check` and `end`
 abbrev pub IsSection : Task → Answer → List (List ℕ) → Type 0

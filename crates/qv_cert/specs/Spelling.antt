@@ -8,7 +8,7 @@ use Rattle.qv_words.specs.declared.op.Answer.{Answer}
 use Rattle.qv_words.specs.declared.op.Answer.TheVariants.{Sat, Unsat, Unknown}
 use Rattle.qv_sorts.specs.Names.{name_of, indices_of}
 use Rattle.qv_lrat_text.specs.Spelling.{spelling}
-use Rattle.qv_words.specs.Rules.{name_of_rule}
+use Rattle.qv_rewrite_passes.specs.Names.{name_of_pass}
 use Rattle.qv_cert.specs.Line.{CertLine, Header, Check, VariableNode, EigenNode, LiteralNode, OperatorNode, Skolem, Instance, Eigen, Rewrite, Lrat, Step, End, IsCertLine}
 use Rattle.qv_cert.specs.Grammar.{cert_line}
 
@@ -42,7 +42,7 @@ cert_text (OperatorNode node o children) =
 cert_text (Skolem place node) = joined (codes "s") (decimal place ∷ decimal node ∷ [])
 cert_text (Instance line parent node) = joined (codes "i") (decimal line ∷ decimal parent ∷ decimal node ∷ [])
 cert_text (Eigen line parent) = joined (codes "e") (decimal line ∷ decimal parent ∷ [])
-cert_text (Rewrite rule) = joined (codes "w") (name_of_rule rule ∷ [])
+cert_text (Rewrite p) = joined (codes "w") (name_of_pass p ∷ [])
 cert_text Lrat = joined (codes "lrat") []
 cert_text (Step line) = spelling line
 cert_text End = joined (codes "end") []

@@ -19,7 +19,7 @@ pub enum CertLineFault {
     Form,
     /// No operator has that name, or it has another number of indices.
     Operator,
-    /// No rule has that name.
+    /// No pass has that name.
     Rule,
     /// The width is over 128, or the value isn't of the sort.
     Literal,

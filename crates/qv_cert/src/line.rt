@@ -1,7 +1,8 @@
 //! Lines of certificates, and sections.
 
 use qv_cnf::Step;
-use qv_words::{Answer, Op, Rule, Word};
+use qv_rewrite_passes::Pass;
+use qv_words::{Answer, Op, Word};
 
 /// A line of a certificate.
 #[derive(Debug, Drop)]
@@ -24,8 +25,8 @@ pub enum Line {
     Instance { line: u64, parent: u64, node: u64 },
     /// The line is below its parent, and the existential there is the line's eigenvariable.
     Eigen { line: u64, parent: u64 },
-    /// The rule rewrites the list of formulas.
-    Rewrite { rule: Rule },
+    /// The pass rewrites the list of formulas.
+    Rewrite { pass: Pass },
     /// The refutation follows.
     Lrat,
     /// A line of the refutation.

@@ -23,8 +23,9 @@ use crate::numbers::{
 };
 use qv_lrat_text::words::{is_byte_word, split_word};
 use qv_lrat_text::{LineFault, LineReader};
+use qv_rewrite_passes::pass_named;
 use qv_sorts::op_named;
-use qv_words::{Op, Sort, Word, rule_named};
+use qv_words::{Op, Sort, Word};
 use std::alloc::Global;
 
 // `1` or `2`, behind `qbv-cert`.
@@ -150,8 +151,8 @@ fn rewriting(text: &[u8]) -> Result<Line, CertLineFault>
     ensures { Gives cert_line_of result (formed (rewriting (words text.now))) }
 {
     let name = only_word(text).ok_or(CertLineFault::Form)?;
-    let rule = rule_named(name).ok_or(CertLineFault::Rule)?;
-    Ok(Line::Rewrite { rule })
+    let pass = pass_named(name).ok_or(CertLineFault::Rule)?;
+    Ok(Line::Rewrite { pass })
 }
 
 // The line, where no word stands behind it.

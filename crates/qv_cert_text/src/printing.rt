@@ -13,8 +13,9 @@ ghost use Rattle.qv_cert.specs.Spelling.{answer_name, width_number};
 use itoa::Buffer;
 use qv_cert::{Line, NoMemory};
 use qv_lrat_text::print_line;
+use qv_rewrite_passes::name_of_pass;
 use qv_sorts::name_of;
-use qv_words::{Answer, Op, Sort, name_of_rule};
+use qv_words::{Answer, Op, Sort};
 use std::alloc::AllocError;
 
 /// A word that is printed.
@@ -179,7 +180,7 @@ fn push_line(line: &Line, out: &mut Vec<u8>) -> Result<(), AllocError>
             push_words(b"i", &[number(*line), number(*parent), number(*node)], out)
         }
         Line::Eigen { line, parent } => push_words(b"e", &[number(*line), number(*parent)], out),
-        Line::Rewrite { rule } => push_words(b"w", &[Piece::Word(name_of_rule(*rule))], out),
+        Line::Rewrite { pass } => push_words(b"w", &[Piece::Word(name_of_pass(*pass))], out),
         Line::Lrat => push_words(b"lrat", &[], out),
         Line::Step(step) => print_line(step, out),
         Line::End => push_words(b"end", &[], out),

@@ -1,5 +1,5 @@
 -- Accepted answers are true.
-use Rattle.std.proofs.Common.{◌≡◌, ℕ, suc, ◌+◌, ◌≤◌, Some, List, [], ◌∷◌, map, refl, ◌∙◌, Ok, Option, arith}
+use Rattle.std.proofs.Common.{◌≡◌, ℕ, suc, ◌+◌, ◌≤◌, Some, List, [], ◌∷◌, map, ◌∙◌, Ok, Option, arith}
 use Rattle.std.specs.Prelude.{All}
 use Rattle.std.specs.List.{AllByRecursion, AllZip}
 use Rattle.std.proofs.lemmas.List.Elements.{recursion_from_All, All-from_recursion}
@@ -9,8 +9,6 @@ use Rattle.qv_words.specs.Clauses.{cnf}
 use Rattle.qv_words.specs.Gate.{Lit}
 use Rattle.qv_words.specs.Sorted.{HasValues}
 use Rattle.qv_words.specs.Meaning.{Means}
-use Rattle.qv_words.specs.declared.rule.Rule.{Rule}
-use Rattle.qv_words.specs.Passes.{passes_by}
 use Rattle.qv_words.specs.PassLaws.{IsPlain, StandsFor}
 use Rattle.qv_words.specs.Skolem.{IsTermOf, goal_of}
 use Rattle.qv_words.specs.Expansion.{IsEarlierEigen, grown_behind, leaves_of}
@@ -20,8 +18,9 @@ use Rattle.qv_words.specs.GameLaws.{IsProblem, MakesAllTrue}
 use Rattle.qv_words.specs.declared.op.Answer.{Answer}
 use Rattle.qv_words.specs.declared.op.Answer.TheVariants.{Sat, Unsat, Unknown}
 use Rattle.qv_words.proofs.Elements.{all-weaker, all-both_weaker}
-use Rattle.qv_words.proofs.PassRules.{rules-keep}
-use Rattle.qv_words.proofs.Passed.{passes-stand}
+use Rattle.qv_rewrite_passes.specs.declared.pass.Pass.{Pass}
+use Rattle.qv_rewrite_passes.specs.Passes.{behind_all}
+use Rattle.qv_rewrite_passes.proofs.Behind.{all-stand}
 use Rattle.qv_cnf.specs.Listing.{Numbered, Rises}
 use Rattle.qv_cnf.specs.LratLine.{LratLine}
 use Rattle.qv_cnf.specs.Refutation.{Refutes, standing_at}
@@ -90,12 +89,12 @@ none-true formulas steps e h refutes are_true =
     none_refuted (standing_at (clause_list formulas)) steps ordered refutes model.0 ((clauses-mean-the-same formulas model.0).1 model.2)
 
 -- nor where that is so of what passes make of them
-none-true-behind : (formulas : List Tree) (rules : List Rule) (steps : List LratLine) (e : ℕ → Option ℕ) → AllByRecursion IsFormula formulas
-    → Refutes (clause_list (passes_by rules formulas)) steps → AllByRecursion (IsTrueUnder e) formulas → ⊥
-none-true-behind formulas rules steps e h refutes are_true =
-    let stand : AllZip StandsFor (passes_by rules formulas) formulas = passes-stand (rules-keep (λ a b. refl) (λ a b. refl)) rules formulas (all-weaker IsFormula IsPlain formulas (λ t f. f.0) h) in
-    none-true (passes_by rules formulas) steps e (stand-formulas (passes_by rules formulas) formulas stand h) refutes
-    (stand-true e (passes_by rules formulas) formulas stand are_true)
+none-true-behind : (formulas : List Tree) (passes : List Pass) (steps : List LratLine) (e : ℕ → Option ℕ) → AllByRecursion IsFormula formulas
+    → Refutes (clause_list (behind_all passes formulas)) steps → AllByRecursion (IsTrueUnder e) formulas → ⊥
+none-true-behind formulas passes steps e h refutes are_true =
+    let stand : AllZip StandsFor (behind_all passes formulas) formulas = all-stand passes formulas (all-weaker IsFormula IsPlain formulas (λ t f. f.0) h) in
+    none-true (behind_all passes formulas) steps e (stand-formulas (behind_all passes formulas) formulas stand h) refutes
+    (stand-true e (behind_all passes formulas) formulas stand are_true)
 
 sat-proof : (task : Task) (texts : List (List ℕ)) → IsProblem task.problem → IsProof task Sat texts → Holds task.problem
 sat-proof task texts problem h =
@@ -103,7 +102,7 @@ sat-proof task texts problem h =
     let goal : Tree = goal_of task.problem terms in
     let formula : IsFormula goal = term-formula goal (goals-are_terms task.problem terms problem h.listed).0 in
     skolem-soundness task.problem terms problem h.listed
-    (λ e values means. none-true-behind (goal ∷ []) h.rules h.steps e (formula, tt) h.refutes ((values, means), tt))
+    (λ e values means. none-true-behind (goal ∷ []) h.passes h.steps e (formula, tt) h.refutes ((values, means), tt))
 
 unsat-proof : (task : Task) (texts : List (List ℕ)) → IsProblem task.problem → IsProof task Unsat texts → Holds task.problem → ⊥
 unsat-proof task texts problem h holds =
@@ -114,7 +113,7 @@ unsat-proof task texts problem h holds =
     all-weaker (λ t. IsTermOf t BoolSort × All (IsEarlierEigen (grown_behind task.problem [] lines)) (free_levels t)) IsFormula leaves (λ t f. term-formula t f.0)
     (recursion_from_All (λ t. IsTermOf t BoolSort × All (IsEarlierEigen (grown_behind task.problem [] lines)) (free_levels t)) leaves terms) in
     expansion-soundness task.problem lines problem h.listed
-    (λ e are_true. none-true-behind leaves h.rules h.steps e formulas h.refutes (recursion_from_All (IsTrueUnder e) leaves are_true)) holds
+    (λ e are_true. none-true-behind leaves h.passes h.steps e formulas h.refutes (recursion_from_All (IsTrueUnder e) leaves are_true)) holds
 
 pub sat-sections-hold : SatSectionsHold
 sat-sections-hold task n m lines behind problem e =

@@ -4,7 +4,7 @@ use Rattle.qv_words.specs.declared.sort.Sort.TheVariants.{Bits}
 use Rattle.qv_words.specs.declared.sort.Sort.TheVariants.{Bool as BoolSort}
 use Rattle.qv_words.specs.declared.op.Answer.{Answer}
 use Rattle.qv_words.specs.declared.op.Answer.TheVariants.{Sat, Unsat, Unknown}
-use Rattle.qv_words.specs.declared.op.Op.TheVariants.{And, Equal, Extract, BvAdd, BvUge}
+use Rattle.qv_words.specs.declared.op.Op.TheVariants.{And, Equal, Extract, BvAdd, BvMul, BvUge}
 use Rattle.qv_words.specs.Tree.{Tree, Variable, Literal, Apply, Nil, Cons}
 use Rattle.qv_words.specs.Prenex.{binary}
 use Rattle.qv_words.specs.Problem.{Problem, Existential, Universal}
@@ -71,6 +71,12 @@ abbrev zero : Problem
 zero = record {
   prefix = record { quantifier = Existential; sort = Bits 2 } ∷ record { quantifier = Universal; sort = Bits 2 } ∷ [];
   matrix = binary Equal (binary BvAdd (Variable 1 (Bits 2)) (Variable 0 (Bits 2))) (Variable 1 (Bits 2));
+}
+
+abbrev commutes : Problem
+commutes = record {
+  prefix = record { quantifier = Universal; sort = Bits 1 } ∷ record { quantifier = Universal; sort = Bits 1 } ∷ [];
+  matrix = binary Equal (binary BvMul (Variable 0 (Bits 1)) (Variable 1 (Bits 1))) (binary BvMul (Variable 1 (Bits 1)) (Variable 0 (Bits 1)));
 }
 
 -- for a script that asserts nothing
@@ -158,6 +164,20 @@ has_zero_rows =
 has_zero : AreRight (asking zero) has_zero_rows
 unfolding has_zero_rows verdict verdict_from text_of judged_from cert_line words is_blank rule_named operator_named number_from signed_number literal_in numbers_to_zero lrat_line cnf cnf_variables variables_from bits_of_number op_circuit add sel each and_all or_all carry stages rows divided copies gates_clauses circuits.◌>>=◌
 has_zero = refl
+
+-- for the problem that products are the same in either order, which the pass of sums makes true
+commutes_rows : List Row
+commutes_rows =
+    (codes "qbv-cert 2\ncheck 1 sat\nw sum\nlrat\n3 0 1 2 0\nend\n", Sat ∷ [], IsAccepted)
+    ∷ (codes "qbv-cert 2\ncheck 1 sat\nlrat\n3 0 1 2 0\nend\n", [], IsRefused 4 kind.Id)
+    ∷ (codes "qbv-cert 2\ncheck 1 sat\nw fold\nlrat\n3 0 1 2 0\nend\n", [], IsRefused 5 kind.Id)
+    ∷ (codes "qbv-cert 2\ncheck 1 sat\nw summ\nlrat\n3 0 1 2 0\nend\n", [], IsRefused 3 kind.Rule)
+    ∷ (codes "qbv-cert 1\ncheck 1 sat\nw sum\nlrat\n3 0 1 2 0\nend\n", [], IsRefused 3 kind.Form)
+    ∷ []
+
+has_order : AreRight (asking commutes) commutes_rows
+unfolding commutes_rows verdict verdict_from text_of judged_from cert_line words is_blank rule_named operator_named number_from signed_number literal_in numbers_to_zero lrat_line cnf cnf_variables variables_from bits_of_number op_circuit add sel each and_all or_all carry stages rows divided copies gates_clauses circuits.◌>>=◌ lib.Count.ones
+has_order = refl
 
 -- for a script that asks about true, false and true
 asks_thrice_rows : List Row

@@ -2,12 +2,14 @@
 
 ghost use Rattle.std.specs.Prelude.{◌≡◌, ◌<◌, All, IfOk, length};
 ghost use Rattle.qv_words.specs.Tree.{IsQuantifierFree};
+ghost use Rattle.qv_words.specs.Sums.{sum_pass};
 ghost use Rattle.qv_store.specs.Nodes.{tree_at};
 ghost use Rattle.qv_store.specs.Stores.{Grows};
 ghost use Rattle.qv_store.specs.Walks.{named};
 ghost use Rattle.qv_rewrite_passes.specs.Passes.{behind};
 
 use qv_rewrite_passes::Pass;
+use qv_rewrite_sums::sum;
 use qv_store::{Id, NoMemory, Store};
 use std::alloc::Global;
 
@@ -23,8 +25,25 @@ pub fn take(alloc: Global, store: &mut Store, pass: Pass, list: &[Id]) -> Result
         ids.items) }
     ensures grows { Grows store.old store.new }
 {
+    let _terms = store.len();
     match pass {
         Pass::By(rule) => qv_rewrite::pass(alloc, store, rule, list),
         Pass::Sum => sum_all(alloc, store, list),
     }
+}
+
+// The terms of the formulas' sums.
+fn sum_all(alloc: Global, store: &mut Store, list: &[Id]) -> Result<Vec<Id>, NoMemory>
+    requires { All (λ id. id < length store.old) list.now }
+    ensures list { IfOk result (λ ids. named store.new ids.items
+        ≡ sum_pass (named store.old list.now)) }
+    ensures below { IfOk result (λ ids. All (λ id. id < length store.new) ids.items) }
+    ensures grows { Grows store.old store.new }
+{
+    let mut sums = Vec::new(alloc);
+    'formulas: for id in list {
+        let made = sum(alloc, store, *id)?;
+        sums.push(made)?;
+    }
+    Ok(sums)
 }

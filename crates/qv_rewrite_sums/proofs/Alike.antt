@@ -1,17 +1,16 @@
 -- One monomial more, by the first place with the same factors.
-use Rattle.std.proofs.Common.{◌≡◌, ℕ, zero, suc, ◌+◌, ◌%◌, ◌<◌, ◌≤◌, ◌==◌, Bool, true, false, cond, Option, Some, None, List, [], ◌∷◌, ◌++◌, map, length, get_or, take, drop, refl, ap, sym, ◌∙◌, subst, arith, fold}
+use Rattle.std.proofs.Common.{◌≡◌, ℕ, zero, suc, ◌+◌, ◌%◌, ◌<◌, ◌==◌, Bool, true, false, cond, Option, Some, None, List, [], ◌∷◌, ◌++◌, map, length, get_or, drop, refl, ap, sym, ◌∙◌, subst, arith, fold}
 use Rattle.std.specs.Prelude.{unwrap_or, option_map}
 use Rattle.std.specs.List.{AllByRecursion, insert, remove}
 use Rattle.std.proofs.lemmas.Bool.{ne_eqb}
 use Rattle.std.proofs.lemmas.List.{drop_more}
 use Rattle.qv_words.specs.Tree.{Tree}
-use Rattle.qv_words.specs.Equality.{tree_eq}
 use Rattle.qv_words.proofs.Leaves.{both}
 use Rattle.qv_store.specs.Nodes.{tree_at}
 use Rattle.qv_store.specs.Stores.{AreShared}
 use Rattle.qv_words.specs.Sums.{Monomial, Polynomial, without, same_factors, reduced, plus}
 use Rattle.qv_rewrite_sums.specs.declared.product.Product.{Product}
-use Rattle.qv_rewrite_sums.specs.Held.{monomial_at, sum_at, first_place, raised, rest_of, modulo, IsWord, AreWords, HaveWords}
+use Rattle.qv_rewrite_sums.specs.Held.{monomial_at, sum_at, first_place, raised, IsWord, AreWords, HaveWords}
 use Rattle.qv_rewrite_sums.proofs.Held.{same-number}
 
 -- a list of words without one of them

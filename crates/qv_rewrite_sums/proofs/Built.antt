@@ -1,5 +1,5 @@
 -- Terms that are put one after another into a store that grows.
-use Rattle.std.proofs.Common.{◌≡◌, ℕ, zero, suc, ◌+◌, ◌<◌, ◌≤◌, List, [], ◌∷◌, ◌++◌, map, Some, fold, length, get_or, take, drop, refl, ap, sym, ◌∙◌, subst, arith, append-nil}
+use Rattle.std.proofs.Common.{◌≡◌, ℕ, ◌+◌, ◌<◌, List, [], ◌∷◌, ◌++◌, map, Some, fold, length, get_or, take, ap, sym, ◌∙◌, subst, append-nil}
 use Rattle.std.specs.List.{AllByRecursion}
 use Rattle.std.proofs.lemmas.List.{take_more, map-append}
 use Rattle.std.proofs.lemmas.List.Sums.{fold_push}
@@ -10,14 +10,13 @@ use Rattle.qv_words.specs.Rank.{result_sort}
 use Rattle.qv_words.specs.Tree.{Tree, tree_sort}
 use Rattle.qv_words.specs.Sorted.{IsSorted}
 use Rattle.qv_words.specs.Prenex.{binary}
-use Rattle.qv_words.specs.Inverse.{unary}
 use Rattle.qv_words.proofs.Leaves.{both}
-use Rattle.qv_words.specs.Sums.{Monomial, Polynomial, product_term, sum_term}
+use Rattle.qv_words.specs.Sums.{product_term, sum_term}
 use Rattle.qv_store.specs.Nodes.{tree_at}
-use Rattle.qv_store.specs.Stores.{AreShared, Grows, StandsAt}
-use Rattle.qv_store.proofs.Replacement.{grown-tree, grown-within, grows-more}
+use Rattle.qv_store.specs.Stores.{AreShared, Grows}
+use Rattle.qv_store.proofs.Replacement.{grown-tree}
 use Rattle.qv_rewrite_sums.specs.declared.product.Product.{Product}
-use Rattle.qv_rewrite_sums.specs.Held.{monomial_at, sum_at, IsWord, AreWords, IsOfWords, AreOfWords, AreBelow, StandsAs}
+use Rattle.qv_rewrite_sums.specs.Held.{monomial_at, sum_at, IsWord, AreWords, AreOfWords, StandsAs}
 use Rattle.qv_rewrite_sums.proofs.Held.{word-below, at-place, at-mapped, words-factors_below, words-below, fit-words, grown-ids, grown-monomial, grown-sum}
 use Rattle.qv_rewrite_sums.proofs.Fitting.{sort-binary, sorted-binary}
 

@@ -1,13 +1,12 @@
 -- Sums of applications, before and after like monomials are put together.
-use Rattle.std.proofs.Common.{◌≡◌, ℕ, zero, suc, ◌+◌, ◌-◌, ◌*◌, ◌%◌, ◌^◌, ◌<◌, ◌≤◌, ◌==◌, Bool, true, false, cond, not, ◌&&◌, ◌||◌, Option, Some, None, List, [], ◌∷◌, ◌++◌, map, length, get_or, drop, refl, ap, sym, ◌∙◌, subst, arith, fold}
-use Rattle.std.specs.Prelude.{unwrap_or, option_map, option_and_then, nat_le, nat_lt, find, is_none}
+use Rattle.std.proofs.Common.{◌≡◌, ℕ, suc, ◌+◌, ◌-◌, ◌*◌, ◌%◌, ◌^◌, ◌<◌, ◌==◌, Bool, true, false, cond, not, ◌&&◌, ◌||◌, Option, Some, None, List, [], ◌∷◌, ◌++◌, map, length, get_or, drop, refl, ap, sym, ◌∙◌, arith, fold}
+use Rattle.std.specs.Prelude.{unwrap_or, option_map, nat_le, nat_lt, find, is_none}
 use Rattle.std.specs.List.{list_any}
 use Rattle.std.proofs.lemmas.List.{drop_more, map-append, append_assoc, length-map, length-append}
-use Rattle.std.proofs.lemmas.Nat.{mod_below, pow_pos}
 use Rattle.std.proofs.Math.Nat.{mod-mod, add-mod-mod, mod-eq_of_lt}
 use Rattle.qv_words.specs.Tree.{Tree}
 use Rattle.qv_store.specs.Nodes.{tree_at}
-use Rattle.qv_words.specs.Sums.{Monomial, Polynomial, constant, atom, scaled, times, multiple, opposite, products, same_factors, reduced, plus, collected, is_short, short_or_atom, sum_or_atom}
+use Rattle.qv_words.specs.Sums.{Monomial, Polynomial, constant, atom, scaled, times, multiple, opposite, products, same_factors, reduced, plus, collected, sum_or_atom}
 use Rattle.qv_rewrite_sums.specs.declared.product.Product.{Product}
 use Rattle.qv_rewrite_sums.specs.Held.{monomial_at, sum_at, rest_of, modulo, short_raw, kept}
 use Rattle.qv_rewrite_sums.proofs.Lists.{some-step}

@@ -1,5 +1,5 @@
 -- The sorts of the factors of trees' sums, and of the terms that these become.
-use Rattle.std.proofs.Common.{◌≡◌, ℕ, ◌+◌, ◌-◌, ◌*◌, ◌%◌, ◌^◌, ◌≤◌, ◌<◌, ◌==◌, Bool as Truth, true, false, cond, not, Option, Some, None, List, [], ◌∷◌, ◌++◌, map, fold, refl, sym, ap, ◌∙◌, subst, arith}
+use Rattle.std.proofs.Common.{◌≡◌, ℕ, ◌+◌, ◌-◌, ◌%◌, ◌^◌, ◌<◌, ◌==◌, Bool as Truth, true, false, cond, not, Option, Some, None, List, [], ◌∷◌, ◌++◌, map, fold, refl, sym, ap, ◌∙◌, subst, arith}
 use Rattle.std.specs.Prelude.{unwrap_or, option_map, option_and_then, nat_lt, filter, IsSome}
 use Rattle.std.specs.List.{AllByRecursion}
 use Rattle.std.proofs.lemmas.Nat.{pow_pos, mod_below}
@@ -24,7 +24,6 @@ use Rattle.qv_words.proofs.Passing.{one-sorts, two-sorts, some-same}
 use Rattle.qv_words.specs.Sums.{Monomial, Polynomial, constant, atom, has_factors, times, multiple, opposite, products, same_factors, reduced, plus, collected, number_of, shifted, combined, is_short, sum_or_atom, with_order, joined, product_term, sum_term, is_subtracted, added, subtracted, opposite_term, difference_term, term_from, term_of, is_odd, sides_equal, zero_from, is_zero, word_width, equation, bits_in, terms_of, rebuilt, applied, polynomial, polynomials, summed}
 use Rattle.qv_rewrite_sums.specs.Held.{IsWord, AreWords, HaveWords, IsOfWords, AreOfWords, IsSumFor}
 use Rattle.qv_rewrite_sums.proofs.Held.{fit-words}
-use Rattle.qv_rewrite_sums.proofs.Alike.{plus-words}
 use Rattle.qv_rewrite_sums.proofs.Ordered.{order-fits}
 
 -- the ranks of two words

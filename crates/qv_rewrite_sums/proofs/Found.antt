@@ -1,5 +1,5 @@
 -- The sums of a walk's terms, over a store that grows.
-use Rattle.std.proofs.Common.{◌≡◌, ℕ, zero, suc, ◌+◌, ◌<◌, ◌≤◌, Option, Some, None, List, [], ◌∷◌, ◌++◌, Vec, map, length, get_or, slice_get, ◌⊎◌, inl, inr, refl, ap, sym, ◌∙◌, subst, arith}
+use Rattle.std.proofs.Common.{◌≡◌, ℕ, ◌<◌, ◌≤◌, Some, List, [], ◌∷◌, ◌++◌, Vec, length, get_or, slice_get, ◌⊎◌, inl, inr, refl, ap, sym, ◌∙◌, subst, arith}
 use Rattle.std.specs.declared.alloc.Global.{Global}
 use Rattle.std.proofs.lemmas.List.{length-append, length-map, map-append}
 use Rattle.std.specs.List.{AllByRecursion}
@@ -11,7 +11,7 @@ use Rattle.qv_store.specs.Stores.{Grows}
 use Rattle.qv_store.specs.Walks.{IsWalk, IsFound}
 use Rattle.qv_store.proofs.Replacement.{grown-tree, grown-within, grown-walk, walk-low}
 use Rattle.qv_rewrite_sums.specs.declared.product.Product.{Product}
-use Rattle.qv_rewrite_sums.specs.Held.{sum_at, sums_in, AreBelow, IsSumOf, AreSums, IsNext}
+use Rattle.qv_rewrite_sums.specs.Held.{sums_in, AreBelow, IsSumOf, AreSums, IsNext}
 use Rattle.qv_rewrite_sums.proofs.Held.{grown-sum}
 
 below-more : (m n : ℕ) → m ≤ n → (p : List Product) → AreBelow m p → AreBelow n p

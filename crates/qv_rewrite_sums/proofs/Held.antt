@@ -1,20 +1,19 @@
 -- Words among the terms of a store, and sums whose factors are words.
-use Rattle.std.proofs.Common.{◌≡◌, ℕ, zero, suc, ◌+◌, ◌^◌, ◌<◌, ◌≤◌, ◌==◌, ◌⊎◌, inl, inr, Bool as Truth, true, false, cond, Option, Some, None, List, [], ◌∷◌, ◌++◌, map, length, get_or, take, drop, refl, ap, sym, ◌∙◌, subst, arith}
+use Rattle.std.proofs.Common.{◌≡◌, ℕ, zero, suc, ◌+◌, ◌^◌, ◌<◌, ◌==◌, inl, inr, Bool as Truth, true, false, Some, List, [], ◌∷◌, map, length, get_or, drop, refl, ap, sym, ◌∙◌, subst, arith}
 use Rattle.std.specs.Prelude.{Result, Ok, Err, OnOk}
 use Rattle.std.specs.List.{AllByRecursion}
 use Rattle.std.proofs.lemmas.Bool.{cases_lt}
 use Rattle.std.proofs.lemmas.List.{drop_more, get_or_past}
-use Rattle.qv_words.specs.declared.sort.Sort.{Sort}
 use Rattle.qv_words.specs.declared.sort.Sort.TheVariants.{Bool, Bits}
 use Rattle.qv_words.specs.Tree.{Tree, Literal, tree_sort}
 use Rattle.qv_words.specs.Equality.{tree_eq}
 use Rattle.qv_words.proofs.Equals.{tree_eq-refl, tree_eq-is, test-refl, eq-from_test}
 use Rattle.qv_store.specs.Nodes.{tree_at}
 use Rattle.qv_store.specs.Stores.{AreShared, Grows}
-use Rattle.qv_store.proofs.Replacement.{grown-tree, grown-within}
-use Rattle.qv_words.specs.Sums.{Monomial, Polynomial}
+use Rattle.qv_store.proofs.Replacement.{grown-tree}
+use Rattle.qv_words.specs.Sums.{Polynomial}
 use Rattle.qv_rewrite_sums.specs.declared.product.Product.{Product}
-use Rattle.qv_rewrite_sums.specs.Held.{monomial_at, sum_at, IsWord, AreWords, HaveWords, IsOfWords, AreOfWords, AreBelow}
+use Rattle.qv_rewrite_sums.specs.Held.{monomial_at, sum_at, IsWord, AreWords, HaveWords, AreOfWords, AreBelow}
 
 -- a word stands below the number of terms
 pub word-below : (trees : List Tree) (w n : ℕ) → IsWord w (tree_at trees n) → n < length trees

@@ -7,4 +7,6 @@ pub mod Fitting
 pub mod Built
 pub mod Found
 pub mod Rebuilding
+pub mod Applying
 pub mod Odd
+pub mod Tests

@@ -1,7 +1,7 @@
 -- Steps of loops that put elements behind a list, and first places of lists.
 use Rattle.std.proofs.Common.{◌≡◌, ℕ, zero, suc, ◌+◌, ◌<◌, ◌≤◌, Bool, true, false, cond, not, Option, Some, None, List, [], ◌∷◌, ◌++◌, map, length, get_or, take, drop, refl, ap, sym, ◌∙◌, subst, arith}
 use Rattle.std.specs.Prelude.{unwrap_or, option_map}
-use Rattle.std.specs.List.{AllByRecursion, insert}
+use Rattle.std.specs.List.{insert}
 use Rattle.std.proofs.lemmas.List.{drop_more, drop_all, map-append, append_assoc, append-nil}
 use Rattle.qv_words.specs.Sums.{put_in}
 use Rattle.qv_rewrite_sums.specs.Held.{first_place, place_or_end}

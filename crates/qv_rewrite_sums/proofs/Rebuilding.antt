@@ -1,6 +1,6 @@
 -- Applications as sums, and rebuilt over the terms of their arguments' sums.
-use Rattle.std.proofs.Common.{◌≡◌, ℕ, zero, suc, ◌+◌, ◌^◌, ◌<◌, ◌≤◌, Bool as Truth, true, false, cond, ◌&&◌, Option, Some, None, List, [], ◌∷◌, ◌++◌, map, length, get_or, take, refl, ap, sym, ◌∙◌, subst, arith}
-use Rattle.std.specs.Prelude.{unwrap_or, option_map, option_and_then, nat_le, nat_lt, find, is_none}
+use Rattle.std.proofs.Common.{◌≡◌, ℕ, suc, ◌+◌, ◌^◌, ◌<◌, Bool as Truth, true, false, cond, ◌&&◌, Option, Some, None, List, [], ◌∷◌, ◌++◌, map, length, get_or, take, refl, ap, sym, ◌∙◌, subst}
+use Rattle.std.specs.Prelude.{unwrap_or, option_map, nat_le, nat_lt, find, is_none}
 use Rattle.std.specs.List.{AllByRecursion, AllZip}
 use Rattle.std.proofs.lemmas.List.{take_more}
 use Rattle.qv_words.specs.declared.sort.Sort.{Sort}
@@ -9,18 +9,18 @@ use Rattle.qv_words.specs.declared.op.Op.{Op}
 use Rattle.qv_words.specs.declared.op.Op.TheVariants.{Equal}
 use Rattle.qv_words.specs.Sort.{width_of}
 use Rattle.qv_words.specs.Tree.{Tree, Trees, Literal, Apply, Nil, Cons, tree_sort}
-use Rattle.qv_words.specs.Sorted.{IsSorted, AreSortedBelow, no_levels}
+use Rattle.qv_words.specs.Sorted.{IsSorted}
 use Rattle.qv_words.proofs.Elements.{zip-more, zip-append}
 use Rattle.qv_words.proofs.Passing.{two-sorts, some-same}
-use Rattle.qv_words.specs.Sums.{Monomial, Polynomial, constant, atom, collected, combined, sum_or_atom, term_of, terms_of, rebuilt, applied, polynomial, polynomials, summed, bits_in, equation, word_width, is_zero, opposite}
+use Rattle.qv_words.specs.Sums.{Monomial, Polynomial, constant, atom, collected, combined, terms_of, rebuilt, polynomial, polynomials, summed, bits_in, equation, word_width, is_zero, opposite}
 use Rattle.qv_store.specs.Nodes.{tree_at, trees_at}
-use Rattle.qv_store.specs.Stores.{AreShared, Grows, StandsAt}
+use Rattle.qv_store.specs.Stores.{Grows, StandsAt}
 use Rattle.qv_store.proofs.Replacement.{grown-tree, grown-within}
 use Rattle.qv_rewrite_sums.specs.declared.product.Product.{Product}
 use Rattle.qv_rewrite_sums.specs.Held.{sum_at, modulo, short_raw, kept, short_sum, IsWord, HaveWords, IsSumOf, AreBelow}
 use Rattle.qv_rewrite_sums.proofs.Held.{words-below, fit-words}
 use Rattle.qv_rewrite_sums.proofs.Combined.{kept-or_atom, collected-rest}
-use Rattle.qv_rewrite_sums.proofs.Fitting.{FitEach, RawFits, alike-sorts, words-difference, combined-fits, collected-fits, sum-fits, sums-fit}
+use Rattle.qv_rewrite_sums.proofs.Fitting.{alike-sorts, words-difference, combined-fits, collected-fits, sum-fits, sums-fit}
 
 -- the terms of sums, one by one
 abbrev pub IsTermOf : List Tree → List Tree → ℕ → ℕ → Type 0

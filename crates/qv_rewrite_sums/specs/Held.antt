@@ -1,14 +1,13 @@
 -- Sums as the code has them, and what they are to the definitions. No public contract cites this.
-use Rattle.std.specs.Prelude.{◌≡◌, ℕ, zero, suc, ◌+◌, ◌*◌, ◌%◌, ◌^◌, ◌<◌, nat_le, nat_lt, Bool, false, not, ◌&&◌, ◌||◌, ◌==◌, if◌then◌else◌, Option, Some, None, option_map, option_and_then, is_none, find, All, List, [], ◌∷◌, ◌++◌, map, length, slice_get, unwrap_or}
+use Rattle.std.specs.Prelude.{◌≡◌, ℕ, zero, suc, ◌+◌, ◌%◌, ◌^◌, ◌<◌, nat_le, nat_lt, Bool, false, ◌&&◌, if◌then◌else◌, Option, Some, None, option_map, option_and_then, is_none, find, All, List, [], ◌∷◌, ◌++◌, map, length, slice_get, unwrap_or}
 use Rattle.std.specs.List.{AllByRecursion}
 use Rattle.std.specs.declared.alloc.Global.{Global}
 use Rattle.std.specs.Prelude.{Vec}
 use Rattle.qv_words.specs.declared.sort.Sort.{Sort}
 use Rattle.qv_words.specs.declared.sort.Sort.TheVariants.{Bool as BoolSort, Bits}
-use Rattle.qv_words.specs.Sort.{width_of}
 use Rattle.qv_words.specs.declared.op.Op.{Op}
 use Rattle.qv_words.specs.declared.op.Op.TheVariants.{Equal}
-use Rattle.qv_words.specs.Tree.{Tree, Trees, Constant, Variable, Apply, tree_sort}
+use Rattle.qv_words.specs.Tree.{Tree, Constant, Variable, Apply, tree_sort}
 use Rattle.qv_words.specs.Sorted.{IsSorted}
 use Rattle.qv_words.specs.Sums.{Monomial, Polynomial, atom, reduced, same_factors, factors_before, is_subtracted, combined, collected, polynomial}
 use Rattle.qv_store.specs.Nodes.{tree_at, trees_at}

@@ -3,6 +3,7 @@
 ghost use Rattle.std.specs.Prelude.{◌≡◌, ◌*◌, ◌^◌, ◌≤◌, ◌<◌, ◌++◌, ◌∷◌, [], ◌&&◌, List, IfOk, OnOk};
 ghost use Rattle.std.specs.Prelude.{length, map, nat_le, nat_lt, is_none, find, option_map};
 ghost use Rattle.std.specs.Prelude.{Some, option_and_then};
+ghost use Rattle.std.specs.List.{list_any};
 ghost use Rattle.qv_words.specs.Tree.{Tree};
 ghost use Rattle.qv_words.specs.Sums.{constant, multiple, times, products, opposite, combined};
 ghost use Rattle.qv_words.specs.Sums.{number_of, shifted};
@@ -299,5 +300,12 @@ fn is_short(sum: &[Product]) -> bool
     ensures { (trees : List Tree) → result ≡ nat_le (length (sum_at trees sum.now)) 24
         && is_none (find (λ m. nat_lt 4 (length m.factors)) (sum_at trees sum.now)) }
 {
-    sum.len() <= MOST_PRODUCTS && !sum.iter().any(|one| one.factors.len() > MOST_FACTORS)
+    sum.len() <= MOST_PRODUCTS && !some_long(sum)
+}
+
+// Whether a product has too many factors.
+fn some_long(sum: &[Product]) -> bool
+    ensures { result ≡ list_any (λ m. nat_lt 4 (length m.factors.items)) sum.now }
+{
+    sum.iter().any(|one| one.factors.len() > MOST_FACTORS)
 }

@@ -27,10 +27,10 @@ pub(crate) fn with_order(
     let mut left = sum.len();
     'left: while left > 0 {
         left -= 1;
-        let factors = factors_in_order(alloc, store, sum[left].factors.as_slice())?;
-        let coefficient = sum[left].coefficient;
+        let one = &sum[left];
+        let factors = factors_in_order(alloc, store, one.factors.as_slice())?;
         let next = Product {
-            coefficient,
+            coefficient: one.coefficient,
             factors,
         };
         let place = place_of_product(store, &ordered, &next);
@@ -88,8 +88,9 @@ fn factors_in_order(
     let mut left = factors.len();
     'left: while left > 0 {
         left -= 1;
-        let place = place_of_factor(store, ordered.as_slice(), factors[left]);
-        ordered.insert(place, factors[left])?;
+        let next = factors[left];
+        let place = place_of_factor(store, ordered.as_slice(), next);
+        ordered.insert(place, next)?;
     }
     Ok(ordered)
 }

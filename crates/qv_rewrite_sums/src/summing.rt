@@ -115,11 +115,13 @@ fn application_sum(
 {
     let _terms = store.len();
     let width = store.sort(id).width();
-    if let Some(sum) = short_sum(alloc, store, walk, sums, width, op, kids)? {
-        return Ok(sum);
+    match short_sum(alloc, store, walk, sums, width, op, kids)? {
+        Some(sum) => Ok(sum),
+        None => {
+            let made = rebuilt(alloc, store, walk, sums, op, kids)?;
+            atom(alloc, made)
+        }
     }
-    let made = rebuilt(alloc, store, walk, sums, op, kids)?;
-    atom(alloc, made)
 }
 
 // The sum of an operator's application, where it is a short one.

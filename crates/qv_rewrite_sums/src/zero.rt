@@ -1,6 +1,8 @@
 //! The formula that a sum is 0.
 
 ghost use Rattle.std.specs.Prelude.{◌≡◌, ◌^◌, ◌≤◌, ◌<◌, ◌==◌, ◌%◌, ◌+◌, List, All, IfOk, length, fold};
+ghost use Rattle.std.specs.Prelude.{◌&&◌, nat_lt};
+ghost use Rattle.std.specs.List.{list_any};
 ghost use Rattle.qv_words.specs.declared.sort.Sort.TheVariants.{Bool as BoolSort};
 ghost use Rattle.qv_words.specs.declared.op.Op.TheVariants.{Equal};
 ghost use Rattle.qv_words.specs.Tree.{Tree};
@@ -109,11 +111,16 @@ fn equation(
 fn is_odd(sum: &[Product]) -> bool
     ensures { (trees : List Tree) → result ≡ is_odd (sum_at trees sum.now) }
 {
-    let some = sum
-        .iter()
-        .any(|one| !one.factors.is_empty() && one.coefficient % 2 == 1);
-    let odd = total_is_odd(sum);
-    !some && odd
+    !some_odd(sum) && total_is_odd(sum)
+}
+
+// Whether a product with factors has an odd coefficient.
+fn some_odd(sum: &[Product]) -> bool
+    ensures { result ≡ list_any (λ m. nat_lt 0 (length m.factors.items)
+        && m.coefficient % 2 == 1) sum.now }
+{
+    sum.iter()
+        .any(|one| !one.factors.is_empty() && one.coefficient % 2 == 1)
 }
 
 // Whether the coefficients make an odd number.

@@ -27,6 +27,9 @@ use Rattle.qv_lrat_text.specs.Grammar.{without_lf, IsId, IsHint}
 use Rattle.qv_lrat_text.specs.Spelling.{spelling, literal_text}
 use Rattle.qv_lrat_text.proofs.PrintedLemmas.{decimal-digits}
 use Rattle.qv_words.specs.Rules.{name_of_rule}
+use Rattle.qv_rewrite_passes.specs.declared.pass.Pass.{Pass}
+use Rattle.qv_rewrite_passes.specs.declared.pass.Pass.TheVariants.{By, Sum}
+use Rattle.qv_rewrite_passes.specs.Names.{name_of_pass}
 use Rattle.qv_cert.specs.Line.{CertLine, Header, Check, VariableNode, EigenNode, LiteralNode, OperatorNode, Skolem, Instance, Eigen, Rewrite, Lrat, Step, End, IsCertLine, IsNumber, IsIndex}
 use Rattle.qv_cert.specs.Grammar.{outer_line, inner_line, cert_line}
 use Rattle.qv_cert.specs.Spelling.{answer_name, width_number, behind_spaces, joined, cert_text, is_step}
@@ -112,6 +115,10 @@ answer-free Unknown = refl
 rule-free : (rule : Rule) → is_free (name_of_rule rule) ≡ true
 rule-free Fold = refl
 rule-free _ = refl
+
+pass-free : (p : Pass) → is_free (name_of_pass p) ≡ true
+pass-free (By rule) = rule-free rule
+pass-free Sum = refl
 
 operator-free : (op : Op) → is_free (name_of op) ≡ true
 operator-free Not = refl
@@ -202,7 +209,7 @@ line-stands (OperatorNode node o children) h =
 line-stands (Skolem place node) h = joined-stands (Skolem place node) (codes "s") (decimal place ∷ decimal node ∷ []) h refl refl (small-free place h.0, (small-free node h.1, tt))
 line-stands (Instance line parent node) h = joined-stands (Instance line parent node) (codes "i") (decimal line ∷ decimal parent ∷ decimal node ∷ []) h refl refl (small-free line h.0, (small-free parent h.1, (small-free node h.2, tt)))
 line-stands (Eigen line parent) h = joined-stands (Eigen line parent) (codes "e") (decimal line ∷ decimal parent ∷ []) h refl refl (small-free line h.0, (small-free parent h.1, tt))
-line-stands (Rewrite rule) h = joined-stands (Rewrite rule) (codes "w") (name_of_rule rule ∷ []) h refl refl (free (name_of_rule rule) (rule-free rule), tt)
+line-stands (Rewrite p) h = joined-stands (Rewrite p) (codes "w") (name_of_pass p ∷ []) h refl refl (free (name_of_pass p) (pass-free p), tt)
 line-stands Lrat h = joined-stands Lrat (codes "lrat") [] h refl refl tt
 line-stands (Step line) h = step-stands line h
 line-stands End h = joined-stands End (codes "end") [] h refl refl tt

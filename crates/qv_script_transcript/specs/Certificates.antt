@@ -34,8 +34,8 @@ greatest_variable clauses = fold (λ n c. fold (λ m l. max m l.variable) n c.li
 
 -- the greatest variable of the clauses that a section refutes; an unknown one refutes none
 abbrev pub variables_of : (task : Task) (answer : Answer) (texts : List (List ℕ)) → IsSection task answer texts → ℕ
-variables_of task answer.Sat texts proof = greatest_variable (clause_list (last_list task.problem answer.Sat proof.given proof.rules))
-variables_of task answer.Unsat texts proof = greatest_variable (clause_list (last_list task.problem answer.Unsat proof.given proof.rules))
+variables_of task answer.Sat texts proof = greatest_variable (clause_list (last_list task.problem answer.Sat proof.given proof.passes))
+variables_of task answer.Unsat texts proof = greatest_variable (clause_list (last_list task.problem answer.Unsat proof.given proof.passes))
 variables_of task answer.Unknown texts read = 0
 
 -- the lines are a section of the answer, for the check-sat of this number, and the check counts its

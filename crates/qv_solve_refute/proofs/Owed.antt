@@ -45,7 +45,7 @@ no-model m formulas h =
     let r = some-and m.newest _ h in
     let k = some-and r.0.kept _ r.2 in
     let final : IsFinal k.0.problem r.0.instances k.2.1.0 formulas = k.2.1.1 in
-    subst HaveNoModel (sym final.list) (final-lists k.0.problem final.winner k.2.1.0 k.2.0 (linked k.0.problem [] k.2.1.0 final.played) final.won)
+    final-lists k.0.problem final.winner k.2.1.0 formulas k.2.0 (linked k.0.problem [] k.2.1.0 final.played) final.won final.list
 
 pub no-values : (m : Metering) (formulas : List Tree) (base : List Numbered) → IsForFinal m formulas → base ≡ clause_list formulas → (v : ℕ → Bool) → IsModel v (clauses_of base) → ⊥
 no-values m formulas base h e v model =
@@ -56,7 +56,7 @@ owed-terms m formulas h =
     let r = some-and m.newest _ h in
     let k = some-and r.0.kept _ r.2 in
     let final : IsFinal k.0.problem r.0.instances k.2.1.0 formulas = k.2.1.1 in
-    subst (All (λ t. IsTermOf t BoolSort)) (sym final.list) (final-terms k.0.problem final.winner k.2.1.0 k.2.0 (linked k.0.problem [] k.2.1.0 final.played) final.won)
+    final-terms k.0.problem final.winner k.2.1.0 formulas k.2.0 (linked k.0.problem [] k.2.1.0 final.played) final.won final.list
 
 -- what was played has a list that is too large
 pub may-exceed : (m lane : Metering) (formulas : List Tree) (limit : ℕ) → IsForFinal m formulas → lane ≡ in_lane Final m → limit ≡ variable_limit lane → limit < cnf_variables formulas → (entries : List Entry) × ExceedsVariables lane entries formulas

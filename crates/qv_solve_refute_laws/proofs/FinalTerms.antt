@@ -1,5 +1,5 @@
 -- The formulas of a final list are boolean terms.
-use Rattle.std.proofs.Common.{ℕ, List, [], ◌∷◌, refl, subst, ◌∙◌}
+use Rattle.std.proofs.Common.{◌≡◌, ℕ, List, [], ◌∷◌, refl, sym, subst, ◌∙◌}
 use Rattle.std.specs.Prelude.{All}
 use Rattle.std.specs.List.{AllByRecursion, AllZip, Contains}
 use Rattle.std.proofs.lemmas.List.Elements.{All-from_recursion, recursion_from_All}
@@ -9,13 +9,13 @@ use Rattle.qv_words.specs.Tree.{Tree}
 use Rattle.qv_words.specs.Sorted.{constants_of}
 use Rattle.qv_words.specs.Skolem.{IsTermOf, goal_of}
 use Rattle.qv_words.specs.Expansion.{leaves_of}
-use Rattle.qv_words.specs.Passes.{passes, rules_in_order}
 use Rattle.qv_words.specs.PassLaws.{IsPlain, StandsFor}
 use Rattle.qv_words.specs.Problem.{Existential, Universal}
 use Rattle.qv_words.specs.Linked.{chain, tree_of}
 use Rattle.qv_words.proofs.Elements.{all-weaker}
-use Rattle.qv_words.proofs.Passed.{passes-stand}
-use Rattle.qv_words.proofs.PassRules.{rules-keep}
+use Rattle.qv_rewrite_passes.specs.declared.pass.Pass.{Pass}
+use Rattle.qv_rewrite_passes.specs.Passes.{behind_all}
+use Rattle.qv_rewrite_passes.proofs.Behind.{all-stand}
 use Rattle.qv_cert_section_laws.proofs.LawfulLines.{leaves-are_terms}
 use Rattle.qv_cert_section_laws.proofs.SkolemByOneMore.{goals-are_terms}
 use Rattle.qv_game_laws.proofs.ChainTheorem.{chain-theorem}
@@ -40,21 +40,21 @@ stands-each [] ts s h = tt
 stands-each (u ∷ us) [] s h = absurd s
 stands-each (u ∷ us) (t ∷ ts) s h = (stands-formula u t s.0 h.0, stands-each us ts s.1 h.1)
 
--- formulas stay formulas behind all passes
-passed-formulas : (formulas : List Tree) → AllByRecursion Formula formulas → All Formula (passes formulas)
-passed-formulas formulas h =
+-- formulas stay formulas behind passes
+passed-formulas : (passes : List Pass) (formulas behind : List Tree) → AllByRecursion Formula formulas → behind ≡ behind_all passes formulas → All Formula behind
+passed-formulas passes formulas behind h is =
     let plain = all-weaker Formula IsPlain formulas (λ t k. record { sorted = k.sorted; free = k.quantifier_free }) h in
-    let stand : AllZip StandsFor (passes formulas) formulas = passes-stand (rules-keep (λ a b. refl) (λ a b. refl)) rules_in_order formulas plain in
-    All-from_recursion Formula (passes formulas) (stands-each (passes formulas) formulas stand h)
+    let stand : AllZip StandsFor behind formulas = subst (λ (us : List Tree). AllZip StandsFor us formulas) (sym is) (all-stand passes formulas plain) in
+    All-from_recursion Formula behind (stands-each behind formulas stand h)
 
 pub final-terms : FinalListsAreTerms
-final-terms p Existential entries hp linked won =
+final-terms p Existential entries formulas hp linked won (passes, is) =
     let made = chain-theorem p entries hp linked won in
     let goal = goal_of p (chain p entries) in
-    passed-formulas (goal ∷ []) ((goals-are_terms p (chain p entries) hp made.0).0, tt)
-final-terms p Universal entries hp linked won =
+    passed-formulas passes (goal ∷ []) formulas ((goals-are_terms p (chain p entries) hp made.0).0, tt) is
+final-terms p Universal entries formulas hp linked won (passes, is) =
     let made = tree-theorem p entries hp linked won in
     let lines = tree_of p entries in
     let terms = leaves-are_terms p lines hp made.0 in
     let each : All Formula (leaves_of p lines) = λ k d less. (terms k d less).0 in
-    passed-formulas (leaves_of p lines) (recursion_from_All Formula (leaves_of p lines) each)
+    passed-formulas passes (leaves_of p lines) formulas (recursion_from_All Formula (leaves_of p lines) each) is

@@ -4,15 +4,14 @@ use Rattle.std.proofs.lemmas.List.{append-nil}
 use Rattle.qv_words.specs.Tree.{Tree}
 use Rattle.qv_words.specs.Clauses.{cnf_variables}
 use Rattle.qv_circuits_laws.proofs.Growing.{one-more}
-use Rattle.qv_meter.specs.Finals.{final_list}
 use Rattle.qv_meter.specs.Units.{Final}
 use Rattle.qv_solve_refute_laws.specs.FinalLaws.{FinalListsMayBeCharged, LongerListsTakeMore, OverLargeFinalLists}
 
 pub may-be-charged : FinalListsMayBeCharged
-may-be-charged p winner entries base played won clauses = record {
+may-be-charged p winner entries formulas base played won list clauses = record {
   entries = entries;
-  formulas = final_list p winner entries;
-  list = record { winner = winner; played = played; won = won; counted = refl; list = refl };
+  formulas = formulas;
+  list = record { winner = winner; played = played; won = won; counted = refl; list = list };
   clauses = clauses;
   charged = refl;
 }
@@ -26,11 +25,10 @@ longer-lists formulas (f ∷ more) =
     omega (arith, one, rest, same)
 
 pub over-large : OverLargeFinalLists
-over-large p winner entries limit formulas more played won same over =
+over-large p winner entries limit formulas more played won list over =
     let longer = longer-lists formulas more in
-    let whole : cnf_variables (final_list p winner entries) ≡ cnf_variables (formulas ++ more) = ap cnf_variables same in
     record {
       lane = Final;
-      list = record { winner = winner; played = played; won = won; counted = refl; list = refl };
-      over = omega (arith, over, longer, whole);
+      list = record { winner = winner; played = played; won = won; counted = refl; list = list };
+      over = omega (arith, over, longer);
     }

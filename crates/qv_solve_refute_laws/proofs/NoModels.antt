@@ -14,14 +14,13 @@ use Rattle.qv_words.specs.Skolem.{IsTermOf, goal_of}
 use Rattle.qv_words.specs.Expansion.{Grown, IsEarlierEigen, grown_behind, leaves_of, line_numbered, sort_at}
 use Rattle.qv_words.specs.Gate.{Lit}
 use Rattle.qv_words.specs.Clauses.{bits_of}
-use Rattle.qv_words.specs.Passes.{passes, rules_in_order}
 use Rattle.qv_words.specs.PassLaws.{IsPlain, StandsFor}
 use Rattle.qv_words.specs.Problem.{Problem, Place, Existential, Universal}
 use Rattle.qv_words.specs.Linked.{chain, tree_of}
 use Rattle.qv_words.proofs.Elements.{all-at, all-both_weaker, all-weaker, some-and}
 use Rattle.qv_words.proofs.Leaves.{HasValue}
-use Rattle.qv_words.proofs.Passed.{passes-stand}
-use Rattle.qv_words.proofs.PassRules.{rules-keep}
+use Rattle.qv_rewrite_passes.specs.Passes.{behind_all}
+use Rattle.qv_rewrite_passes.proofs.Behind.{all-stand}
 use Rattle.qv_circuits_laws.specs.CircuitLaws.{number_of}
 use Rattle.qv_circuits_laws.specs.ClauseLaws.{blasted, level_value, IsOverLevels}
 use Rattle.qv_circuits_laws.proofs.Modelling.{models-give_values}
@@ -30,7 +29,7 @@ use Rattle.qv_cert_section_laws.proofs.LawfulLines.{leaves-are_terms}
 use Rattle.qv_cert_section_laws.proofs.SkolemByOneMore.{goals-are_terms}
 use Rattle.qv_game_laws.proofs.ChainTheorem.{chain-theorem}
 use Rattle.qv_game_laws.proofs.TreeTheorem.{tree-theorem}
-use Rattle.qv_solve_refute_laws.specs.FinalLaws.{FalseListsHaveNoModel, FinalListsHaveNoModel}
+use Rattle.qv_solve_refute_laws.specs.FinalLaws.{FalseListsHaveNoModel, FinalListsHaveNoModel, HaveNoModel}
 
 -- the values that a model gives to levels, and 0 where it gives none
 abbrev given : (ℕ → Bool) → (ℕ → Sort) → List Tree → ℕ → Option ℕ
@@ -108,11 +107,11 @@ module _ (v : ℕ → Bool) (sorts : ℕ → Sort) (us : List Tree) (free : AllB
   }
 
 pub false-lists : FalseListsHaveNoModel
-false-lists formulas sorts terms leveled never v model =
-    let us = passes formulas in
+false-lists passes formulas sorts terms leveled never v model =
+    let us = behind_all passes formulas in
     let each : AllByRecursion Formula formulas = recursion_from_All Formula formulas terms in
     let levels : AllByRecursion (λ t. All (Leaf sorts) (free_levels t)) formulas = recursion_from_All (λ t. All (Leaf sorts) (free_levels t)) formulas leveled in
-    let stand : AllZip StandsFor us formulas = passes-stand (rules-keep (λ a b. refl) (λ a b. refl)) rules_in_order formulas (all-weaker Formula IsPlain formulas (λ t h. record { sorted = h.sorted; free = h.quantifier_free }) each) in
+    let stand : AllZip StandsFor us formulas = all-stand passes formulas (all-weaker Formula IsPlain formulas (λ t h. record { sorted = h.sorted; free = h.quantifier_free }) each) in
     let left : AllByRecursion (IsLeft sorts) us = left-each sorts us formulas stand each levels in
     let plain : AllByRecursion IsPlain us = all-weaker (IsLeft sorts) IsPlain us (λ u h. h.0) left in
     let e = given v sorts us in
@@ -142,16 +141,16 @@ eigen-sort grown leaf h =
     sym (ap (λ (o : Option Grown). unwrap_or (option_and_then (λ (g : Grown). g.eigen) o) BoolSort) g.1 ∙ ap (λ (o : Option Sort). unwrap_or o BoolSort) g.2)
 
 pub final-lists : FinalListsHaveNoModel
-final-lists p Existential entries hp linked won =
+final-lists p Existential entries formulas hp linked won (passes, is) =
     let made = chain-theorem p entries hp linked won in
     let goal = goal_of p (chain p entries) in
     let term = goals-are_terms p (chain p entries) hp made.0 in
     let leaves : All (Leaf (sort_at p)) (free_levels goal) = λ k d less. place-sort p (get_or (free_levels goal) k d) (term.1 k d less).1 in
-    false-lists (goal ∷ []) (sort_at p) (All-from_recursion Formula (goal ∷ []) (term.0, tt)) (All-from_recursion (λ t. All (Leaf (sort_at p)) (free_levels t)) (goal ∷ []) (leaves, tt))
-    (λ e all. let own = (recursion_from_All (IsTrueUnder e) (goal ∷ []) all).0 in made.1 e own.0 own.1)
-final-lists p Universal entries hp linked won =
+    subst HaveNoModel (sym is) (false-lists passes (goal ∷ []) (sort_at p) (All-from_recursion Formula (goal ∷ []) (term.0, tt)) (All-from_recursion (λ t. All (Leaf (sort_at p)) (free_levels t)) (goal ∷ []) (leaves, tt))
+    (λ e all. let own = (recursion_from_All (IsTrueUnder e) (goal ∷ []) all).0 in made.1 e own.0 own.1))
+final-lists p Universal entries formulas hp linked won (passes, is) =
     let made = tree-theorem p entries hp linked won in
     let lines = tree_of p entries in
     let grown = grown_behind p [] lines in
     let terms = leaves-are_terms p lines hp made.0 in
-    false-lists (leaves_of p lines) (eigen_sorts grown) (λ k d less. (terms k d less).0) (λ k d less j x within. eigen-sort grown (get_or (free_levels (get_or (leaves_of p lines) k d)) j x) ((terms k d less).1 j x within)) made.1
+    subst HaveNoModel (sym is) (false-lists passes (leaves_of p lines) (eigen_sorts grown) (λ k d less. (terms k d less).0) (λ k d less j x within. eigen-sort grown (get_or (free_levels (get_or (leaves_of p lines) k d)) j x) ((terms k d less).1 j x within)) made.1)

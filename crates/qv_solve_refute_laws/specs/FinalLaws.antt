@@ -7,14 +7,15 @@ use Rattle.qv_words.specs.Sorted.{free_levels}
 use Rattle.qv_words.specs.Skolem.{IsTermOf}
 use Rattle.qv_words.specs.Gate.{clauses_value}
 use Rattle.qv_words.specs.Clauses.{cnf, cnf_variables}
-use Rattle.qv_words.specs.Passes.{passes}
 use Rattle.qv_words.specs.Problem.{Problem, Quantifier}
 use Rattle.qv_words.specs.Linked.{Entry, IsLinked}
 use Rattle.qv_words.specs.GameLaws.{IsProblem, HasWon, MakesAllTrue}
+use Rattle.qv_rewrite_passes.specs.declared.pass.Pass.{Pass}
+use Rattle.qv_rewrite_passes.specs.Passes.{behind_all}
 use Rattle.qv_cnf.specs.Listing.{Numbered}
 use Rattle.qv_meter.specs.Bases.{IsBaseOf}
 use Rattle.qv_meter.specs.Played.{IsPlayed}
-use Rattle.qv_meter.specs.Finals.{final_list, instances_of}
+use Rattle.qv_meter.specs.Finals.{IsFinalList, instances_of}
 use Rattle.qv_meter.specs.Units.{Final, IsOverLarge, MayGoOn}
 
 -- each variable of the formulas has its level's sort
@@ -26,28 +27,29 @@ abbrev pub HaveNoModel : List Tree → Type 0
 HaveNoModel formulas = (v : ℕ → Bool) → clauses_value v (cnf formulas) ≡ true → ⊥
 
 -- formulas without quantifiers and constants that no values make all true have clauses without a
--- model, also after all passes
+-- model, also behind passes
 abbrev pub FalseListsHaveNoModel : Type 0
 FalseListsHaveNoModel =
-    (formulas : List Tree) (sorts : ℕ → Sort) → All (λ t. IsTermOf t BoolSort) formulas → HaveLevelSorts sorts formulas →
-    ((e : ℕ → Option ℕ) → MakesAllTrue e formulas → ⊥) → HaveNoModel (passes formulas)
+    (passes : List Pass) (formulas : List Tree) (sorts : ℕ → Sort) → All (λ t. IsTermOf t BoolSort) formulas → HaveLevelSorts sorts formulas →
+    ((e : ℕ → Option ℕ) → MakesAllTrue e formulas → ⊥) → HaveNoModel (behind_all passes formulas)
 
 -- so it is with a final list
 abbrev pub FinalListsHaveNoModel : Type 0
 FinalListsHaveNoModel =
-    (p : Problem) (winner : Quantifier) (entries : List Entry) → IsProblem p → IsLinked p entries → HasWon p winner entries → HaveNoModel (final_list p winner entries)
+    (p : Problem) (winner : Quantifier) (entries : List Entry) (formulas : List Tree) → IsProblem p → IsLinked p entries → HasWon p winner entries →
+    IsFinalList p winner entries formulas → HaveNoModel formulas
 
 -- its formulas are boolean terms
 abbrev pub FinalListsAreTerms : Type 0
 FinalListsAreTerms =
-    (p : Problem) (winner : Quantifier) (entries : List Entry) → IsProblem p → IsLinked p entries → HasWon p winner entries →
-    All (λ t. IsTermOf t BoolSort) (final_list p winner entries)
+    (p : Problem) (winner : Quantifier) (entries : List Entry) (formulas : List Tree) → IsProblem p → IsLinked p entries → HasWon p winner entries →
+    IsFinalList p winner entries formulas → All (λ t. IsTermOf t BoolSort) formulas
 
 -- a base with its clauses may be charged to the final lane, where no conflict was charged to it
 abbrev pub FinalListsMayBeCharged : Type 0
 FinalListsMayBeCharged =
-    (p : Problem) (winner : Quantifier) (entries : List Entry) (base : List Numbered) → IsPlayed p entries → HasWon p winner entries →
-    IsBaseOf base (final_list p winner entries) → MayGoOn p (instances_of p winner entries) Final 0 base []
+    (p : Problem) (winner : Quantifier) (entries : List Entry) (formulas : List Tree) (base : List Numbered) → IsPlayed p entries → HasWon p winner entries →
+    IsFinalList p winner entries formulas → IsBaseOf base formulas → MayGoOn p (instances_of p winner entries) Final 0 base []
 
 -- a list with further formulas behind takes no fewer variables
 abbrev pub LongerListsTakeMore : Type 0
@@ -57,4 +59,4 @@ LongerListsTakeMore = (formulas more : List Tree) → cnf_variables formulas ≤
 abbrev pub OverLargeFinalLists : Type 0
 OverLargeFinalLists =
     (p : Problem) (winner : Quantifier) (entries : List Entry) (limit : ℕ) (formulas more : List Tree) → IsPlayed p entries → HasWon p winner entries →
-    final_list p winner entries ≡ formulas ++ more → limit < cnf_variables formulas → IsOverLarge p (instances_of p winner entries) entries limit (final_list p winner entries)
+    IsFinalList p winner entries (formulas ++ more) → limit < cnf_variables formulas → IsOverLarge p (instances_of p winner entries) entries limit (formulas ++ more)

@@ -5,12 +5,12 @@ ghost use Rattle.qv_solve_refute_laws.specs.FinalLaws.{FinalListsAreTerms, Final
 ghost use Rattle.qv_solve_refute_laws.specs.FinalLaws.{LongerListsTakeMore, OverLargeFinalLists};
 ghost use Rattle.qv_solve_refute_laws.specs.StepLaws.{StepsHaveIds};
 
-/// Formulas that no values make all true have clauses without a model, also after all passes.
+/// Formulas that no values make all true have clauses without a model, also behind passes.
 pub fn false_lists_have_no_model()
     ensures { FalseListsHaveNoModel }
 {}
 
-/// So it is with the final list of entries with which a player has won.
+/// So it is with a final list of entries with which a player has won.
 pub fn final_lists_have_no_model()
     ensures { FinalListsHaveNoModel }
 {}

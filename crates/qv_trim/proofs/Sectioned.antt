@@ -5,7 +5,7 @@ use Rattle.std.specs.List.{AllByRecursion}
 use Rattle.std.proofs.lemmas.List.Elements.{recursion_from_All}
 use Rattle.qv_words.specs.declared.op.Answer.{Answer}
 use Rattle.qv_words.specs.declared.op.Answer.TheVariants.{Sat, Unsat, Unknown}
-use Rattle.qv_words.specs.declared.rule.Rule.{Rule}
+use Rattle.qv_rewrite_passes.specs.declared.pass.Pass.{Pass}
 use Rattle.qv_cnf.specs.LratLine.{LratLine, Addition, Deletion}
 use Rattle.qv_cert.specs.Line.{CertLine, Check, Rewrite, Lrat, Step, End, IsCertLine}
 use Rattle.qv_cert.specs.Grammar.{Reading, cert_line}
@@ -127,21 +127,21 @@ weaker : {X : Type 0} (P Q : X → Type 0) (xs : List X) → ((x : X) → P x �
 weaker P Q [] f h = tt
 weaker P Q (x ∷ xs) f h = (f x h.0, weaker P Q xs f h.1)
 
-rules-before : (rules : List Rule) → HaveNoLast (map Rewrite rules)
-rules-before [] = tt
-rules-before (rule ∷ rules) = (refl, rules-before rules)
+passes-before : (passes : List Pass) → HaveNoLast (map Rewrite passes)
+passes-before [] = tt
+passes-before (p ∷ ps) = (refl, passes-before ps)
 
-rules-outer : (rules : List Rule) → AllByRecursion (λ line. is_step line ≡ false) (map Rewrite rules)
-rules-outer [] = tt
-rules-outer (rule ∷ rules) = (refl, rules-outer rules)
+passes-outer : (passes : List Pass) → AllByRecursion (λ line. is_step line ≡ false) (map Rewrite passes)
+passes-outer [] = tt
+passes-outer (p ∷ ps) = (refl, passes-outer ps)
 
 module _ (task : Task) (answer : Answer) (texts : List (List ℕ)) (p : IsProof task answer texts) where
   pub front_of : List CertLine
-  front_of = Check task.number answer ∷ (p.given ++ map Rewrite p.rules)
+  front_of = Check task.number answer ∷ (p.given ++ map Rewrite p.passes)
 
-  front-whole_is : Check task.number answer ∷ (p.given ++ (map Rewrite p.rules ++ Lrat ∷ [])) ≡ front_of ++ Lrat ∷ []
+  front-whole_is : Check task.number answer ∷ (p.given ++ (map Rewrite p.passes ++ Lrat ∷ [])) ≡ front_of ++ Lrat ∷ []
   unfolding front_of
-  front-whole_is = ap (λ (rest : List CertLine). Check task.number answer ∷ rest) (sym (append_assoc p.given (map Rewrite p.rules) (Lrat ∷ [])))
+  front-whole_is = ap (λ (rest : List CertLine). Check task.number answer ∷ rest) (sym (append_assoc p.given (map Rewrite p.passes) (Lrat ∷ [])))
 
   pub front-read : AreRead false p.outer (front_of ++ Lrat ∷ [])
   front-read = subst (λ (lines : List CertLine). AreRead false p.outer lines) front-whole_is p.outer_are
@@ -150,9 +150,9 @@ module _ (task : Task) (answer : Answer) (texts : List (List ℕ)) (p : IsProof 
   unfolding front_of
   front-before = (
     refl,
-    both-parts (λ (line : CertLine). last_of line ≡ None) p.given (map Rewrite p.rules)
+    both-parts (λ (line : CertLine). last_of line ≡ None) p.given (map Rewrite p.passes)
         (weaker (λ (line : CertLine). IsTrue (belongs answer line)) (λ (line : CertLine). last_of line ≡ None) p.given (belongs-before answer) (recursion_from_All (λ (line : CertLine). IsTrue (belongs answer line)) p.given p.belong))
-        (rules-before p.rules),
+        (passes-before p.passes),
   )
 
   front-outer : AllByRecursion (λ line. is_step line ≡ false) (front_of ++ Lrat ∷ [])
@@ -160,9 +160,9 @@ module _ (task : Task) (answer : Answer) (texts : List (List ℕ)) (p : IsProof 
   front-outer =
       both-parts (λ (line : CertLine). is_step line ≡ false) front_of (Lrat ∷ []) (
         refl,
-        both-parts (λ (line : CertLine). is_step line ≡ false) p.given (map Rewrite p.rules)
+        both-parts (λ (line : CertLine). is_step line ≡ false) p.given (map Rewrite p.passes)
             (weaker (λ (line : CertLine). IsTrue (belongs answer line)) (λ (line : CertLine). is_step line ≡ false) p.given (belongs-outer answer) (recursion_from_All (λ (line : CertLine). IsTrue (belongs answer line)) p.given p.belong))
-            (rules-outer p.rules),
+            (passes-outer p.passes),
       )
       (refl, tt)
 
@@ -247,7 +247,7 @@ proof-stands task answer texts trimmed p t =
     in
     record {
       given = p.given;
-      rules = p.rules;
+      passes = p.passes;
       steps = own.kept;
       outer = map cert_text (front ++ Lrat ∷ []);
       inner = map cert_text (map Step own.kept ++ End ∷ []);
@@ -259,7 +259,7 @@ proof-stands task answer texts trimmed p t =
       version = p.version;
       listed = p.listed;
       few = p.few;
-      refutes = kept_refute (clause_list (last_list task.problem answer p.given p.rules)) p.steps own.kept p.refutes own.keeps;
+      refutes = kept_refute (clause_list (last_list task.problem answer p.given p.passes)) p.steps own.kept p.refutes own.keeps;
     }
 
 unknown-stands : (task : Task) (texts : List (List ℕ)) (trimmed : List CertLine) → IsSection task Unknown texts → StaysUnknown texts trimmed → IsSection task Unknown (map cert_text trimmed)

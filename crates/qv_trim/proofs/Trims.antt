@@ -190,7 +190,7 @@ module _ (text : List ℕ) (old mid : Option (List ℕ)) where
         → ((line rest : List ℕ) → BeginsWith (drop end text) line rest → drop size text ≡ rest) → (drop size text ≡ rest) × ((trimmed : List CertLine) × IsTrimmedProof texts trimmed × Appends old new (flat_map cert_text trimmed))
     trims-proof task answer texts rest p end size late new is each go last_appends sized =
         let d = front-done task answer texts rest p is each in
-        let steps = go (clause_list (last_list task.problem answer p.given p.rules)) p.steps (d.last ++ 10 ∷ rest) d.begins d.ends p.refutes in
+        let steps = go (clause_list (last_list task.problem answer p.given p.passes)) p.steps (d.last ++ 10 ∷ rest) d.begins d.ends p.refutes in
         let front : List CertLine = front_of task answer texts p in
         let kept : List LratLine = steps.1.0 in
         let first : List ℕ = flat_map cert_text (front ++ Lrat ∷ []) in
@@ -214,7 +214,7 @@ module _ (text : List ℕ) (old mid : Option (List ℕ)) where
         let own = own-trimmed task answer texts p trimmed t in
         let front : List CertLine = front_of task answer texts p in
         front-then old mid new (flat_map cert_text trimmed) (flat_map cert_text (front ++ Lrat ∷ [])) (steps_text own.kept) (codes "end\n") d.appends
-        (fail (clause_list (last_list task.problem answer p.given p.rules)) p.steps own.kept (d.last ++ 10 ∷ rest) d.begins d.ends p.refutes own.keeps)
+        (fail (clause_list (last_list task.problem answer p.given p.passes)) p.steps own.kept (d.last ++ 10 ∷ rest) d.begins d.ends p.refutes own.keeps)
         (ap (flat_map cert_text) own.trimmed_are ∙ trimmed-text front own.kept)
 
     -- the refutation fails
@@ -227,7 +227,7 @@ module _ (text : List ℕ) (old mid : Option (List ℕ)) where
     fails-end_proof task answer texts rest trimmed p end late new is each t go part =
         let d = front-done task answer texts rest p is each in
         let own = own-trimmed task answer texts p trimmed t in
-        let steps = go (clause_list (last_list task.problem answer p.given p.rules)) p.steps (d.last ++ 10 ∷ rest) d.begins d.ends p.refutes in
+        let steps = go (clause_list (last_list task.problem answer p.given p.passes)) p.steps (d.last ++ 10 ∷ rest) d.begins d.ends p.refutes in
         let same : steps.1.0 ≡ own.kept = trimmed_are_one p.steps steps.1.0 own.kept steps.1.1 own.keeps in
         let front : List CertLine = front_of task answer texts p in
         let first : List ℕ = flat_map cert_text (front ++ Lrat ∷ []) in

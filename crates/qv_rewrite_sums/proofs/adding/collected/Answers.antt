@@ -1,4 +1,4 @@
-use Rattle.std.proofs.Common.{◌≡◌, ◌^◌, ◌+◌, List, [], drop, fold, refl, ap, sym, ◌∙◌, subst}
+use Rattle.std.proofs.Common.{◌^◌, List, fold, ap, sym, ◌∙◌, subst}
 use Rattle.std.proofs.lemmas.List.{drop_all}
 use Rattle.qv_words.specs.Sums.{plus}
 use Rattle.qv_rewrite_sums.specs.declared.product.Product.{Product}

@@ -1,4 +1,4 @@
-use Rattle.std.proofs.Common.{◌≡◌, ℕ, Bool, true, false, List, map, get_or, ap, sym, ◌∙◌, subst}
+use Rattle.std.proofs.Common.{◌≡◌, ℕ, true, false, List, map, get_or, ap, sym, ◌∙◌, subst}
 use Rattle.qv_words.specs.Sums.{Monomial, same_factors}
 use Rattle.qv_store.specs.Nodes.{tree_at}
 use Rattle.qv_rewrite_sums.specs.declared.product.Product.{Product}

@@ -1,5 +1,4 @@
-use Rattle.std.proofs.Common.{◌≡◌, ◌+◌, ◌==◌, ℕ, false, List, Some, None, map, drop, ap, sym, ◌∙◌, subst}
-use Rattle.std.specs.Prelude.{Option}
+use Rattle.std.proofs.Common.{◌≡◌, ◌+◌, ◌==◌, ℕ, List, Some, None, map, drop, ap, sym, ◌∙◌, subst}
 use Rattle.qv_words.specs.Sums.{same_factors}
 use Rattle.qv_store.specs.Nodes.{tree_at}
 use Rattle.qv_rewrite_sums.specs.Held.{first_place, IsWord, AreWords}

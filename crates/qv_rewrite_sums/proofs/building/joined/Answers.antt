@@ -1,7 +1,7 @@
-use Rattle.std.proofs.Common.{◌≡◌, ◌+◌, ℕ, List, map, take, fold, refl, ap, sym, ◌∙◌, subst}
+use Rattle.std.proofs.Common.{ℕ, List, map, fold, refl, ap, ◌∙◌, subst}
 use Rattle.std.proofs.lemmas.List.{take_all}
 use Rattle.qv_words.specs.declared.sort.Sort.TheVariants.{Bits}
-use Rattle.qv_words.specs.Tree.{Tree, tree_sort}
+use Rattle.qv_words.specs.Tree.{tree_sort}
 use Rattle.qv_words.specs.Prenex.{binary}
 use Rattle.qv_store.specs.Nodes.{tree_at}
 use Rattle.qv_store.proofs.Replacement.{grows-more}

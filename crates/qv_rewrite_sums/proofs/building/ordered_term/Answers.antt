@@ -1,7 +1,7 @@
 use Rattle.std.proofs.Common.{◌<◌, ◌^◌, List, ap, sym, ◌∙◌, subst}
 use Rattle.std.proofs.lemmas.List.Elements.{All-from_recursion}
 use Rattle.qv_words.specs.declared.sort.Sort.TheVariants.{Bits}
-use Rattle.qv_words.specs.Sums.{Polynomial, added, subtracted, difference_term}
+use Rattle.qv_words.specs.Sums.{Polynomial, subtracted, difference_term}
 use Rattle.qv_store.proofs.Replacement.{if-ok}
 use Rattle.qv_rewrite_sums.specs.declared.product.Product.{Product}
 use Rattle.qv_rewrite_sums.specs.Held.{sum_at, AreOfWords, StandsAs}

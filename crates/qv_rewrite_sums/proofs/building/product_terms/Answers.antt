@@ -1,10 +1,8 @@
-use Rattle.std.proofs.Common.{◌≡◌, ◌+◌, ℕ, List, [], map, take, refl, ap, sym, ◌∙◌, subst}
+use Rattle.std.proofs.Common.{◌+◌, ℕ, List, [], take, refl, sym, subst}
 use Rattle.std.proofs.lemmas.List.{take_all}
-use Rattle.qv_words.specs.Sums.{product_term}
-use Rattle.qv_store.specs.Nodes.{tree_at}
 use Rattle.qv_store.proofs.Replacement.{grows-more}
 use Rattle.qv_rewrite_sums.specs.declared.product.Product.{Product}
-use Rattle.qv_rewrite_sums.specs.Held.{monomial_at, sum_at, AreWords, IsOfWords}
+use Rattle.qv_rewrite_sums.specs.Held.{monomial_at, IsOfWords}
 use Rattle.qv_rewrite_sums.proofs.Held.{at-mapped}
 use Rattle.qv_rewrite_sums.proofs.Built.{grows-itself, AreTerms, product-fits, terms-more}
 use Rattle.qv_rewrite_sums.proofs.building.product_terms.Goals as goal

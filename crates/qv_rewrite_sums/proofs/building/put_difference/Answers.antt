@@ -1,10 +1,9 @@
-use Rattle.std.proofs.Common.{◌≡◌, ap, sym, ◌∙◌, subst}
+use Rattle.std.proofs.Common.{ap, sym, ◌∙◌, subst}
 use Rattle.qv_words.specs.declared.sort.Sort.TheVariants.{Bits}
 use Rattle.qv_words.specs.declared.op.Op.TheVariants.{BvSub}
-use Rattle.qv_words.specs.Tree.{Tree, tree_sort}
-use Rattle.qv_store.specs.Nodes.{tree_at}
-use Rattle.qv_store.proofs.Replacement.{grown-tree, grows-more, if-ok}
-use Rattle.qv_rewrite_sums.specs.Held.{sum_at, AreOfWords, StandsAs}
+use Rattle.qv_words.specs.Tree.{tree_sort}
+use Rattle.qv_store.proofs.Replacement.{grown-tree, if-ok}
+use Rattle.qv_rewrite_sums.specs.Held.{AreOfWords, StandsAs}
 use Rattle.qv_rewrite_sums.proofs.Fitting.{alike-rank}
 use Rattle.qv_rewrite_sums.proofs.Built.{second-sum, two-terms}
 use Rattle.qv_rewrite_sums.proofs.building.put_difference.Goals as goal

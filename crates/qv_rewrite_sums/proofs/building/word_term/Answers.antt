@@ -1,7 +1,6 @@
-use Rattle.std.proofs.Common.{◌≡◌, ◌<◌, ◌^◌, ℕ, Option, Some, None, List, ap, sym, ◌∙◌, subst}
+use Rattle.std.proofs.Common.{◌≡◌, ℕ, Option, Some, None, List, ap, sym, ◌∙◌, subst}
 use Rattle.qv_words.specs.declared.sort.Sort.TheVariants.{Bits}
-use Rattle.qv_words.specs.Inverse.{number}
-use Rattle.qv_words.specs.Sums.{Polynomial, number_of, with_order, added, subtracted, difference_term, term_from, term_of}
+use Rattle.qv_words.specs.Sums.{Polynomial, number_of, with_order, added, subtracted, difference_term, term_from}
 use Rattle.qv_store.proofs.Replacement.{if-ok}
 use Rattle.qv_rewrite_sums.specs.declared.product.Product.{Product}
 use Rattle.qv_rewrite_sums.specs.Held.{sum_at, AreOfWords, StandsAs}

@@ -1,8 +1,6 @@
-use Rattle.std.proofs.Common.{◌^◌, ◌++◌, ◌∷◌, [], ◌∙◌, List, ap, sym}
+use Rattle.std.proofs.Common.{◌++◌, ◌∷◌, [], ◌∙◌, ap, sym}
 use Rattle.std.proofs.lemmas.List.{map-append}
-use Rattle.qv_words.specs.Tree.{Tree}
 use Rattle.qv_words.specs.Sums.{Monomial, Polynomial, constant}
-use Rattle.qv_rewrite_sums.specs.declared.product.Product.{Product}
 use Rattle.qv_rewrite_sums.specs.Held.{monomial_at, sum_at}
 use Rattle.qv_rewrite_sums.proofs.Combined.{monomial-is, opposite-one}
 use Rattle.qv_rewrite_sums.proofs.combining.complement.Goals as goal

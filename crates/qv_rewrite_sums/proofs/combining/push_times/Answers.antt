@@ -1,5 +1,4 @@
 use Rattle.std.proofs.Common.{◌^◌, ◌∙◌, List, map, refl}
-use Rattle.qv_words.specs.Tree.{Tree}
 use Rattle.qv_words.specs.Sums.{times}
 use Rattle.qv_rewrite_sums.specs.declared.product.Product.{Product}
 use Rattle.qv_rewrite_sums.specs.Held.{monomial_at, sum_at, modulo}

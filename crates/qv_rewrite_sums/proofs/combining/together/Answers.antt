@@ -1,5 +1,4 @@
 use Rattle.std.proofs.Common.{◌^◌, ◌++◌, ◌∙◌, List, ap, sym}
-use Rattle.qv_words.specs.Tree.{Tree}
 use Rattle.qv_words.specs.Sums.{Polynomial, multiple}
 use Rattle.qv_rewrite_sums.specs.declared.product.Product.{Product}
 use Rattle.qv_rewrite_sums.specs.Held.{sum_at, modulo}

@@ -1,4 +1,4 @@
-use Rattle.std.proofs.Common.{◌≡◌, ℕ, Bool, true, false, not, length, ap, sym, ◌∙◌}
+use Rattle.std.proofs.Common.{ℕ, Bool, not, length, ap, sym, ◌∙◌}
 use Rattle.std.specs.Prelude.{Option, unwrap_or}
 use Rattle.qv_words.specs.Sums.{comes_before}
 use Rattle.qv_store.specs.Nodes.{tree_at}

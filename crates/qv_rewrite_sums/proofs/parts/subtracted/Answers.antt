@@ -1,6 +1,5 @@
-use Rattle.std.proofs.Common.{◌≡◌, ◌+◌, ◌++◌, ◌∷◌, [], ◌∙◌, Bool, ℕ, List, cond, drop, ap, refl}
+use Rattle.std.proofs.Common.{◌+◌, ◌++◌, ◌∷◌, [], ◌∙◌, Bool, ℕ, List, cond, drop, ap, refl}
 use Rattle.std.specs.Prelude.{filter}
-use Rattle.qv_words.specs.Tree.{Tree}
 use Rattle.qv_words.specs.Signed.{negated}
 use Rattle.qv_words.specs.Sums.{Monomial, is_subtracted, subtracted}
 use Rattle.qv_rewrite_sums.specs.declared.product.Product.{Product}

@@ -1,6 +1,5 @@
-use Rattle.std.proofs.Common.{◌≡◌, ◌++◌, ◌∷◌, [], ◌∙◌, Bool, List, cond, not, ap, refl}
+use Rattle.std.proofs.Common.{◌++◌, ◌∷◌, [], ◌∙◌, Bool, List, cond, not, ap, refl}
 use Rattle.std.specs.Prelude.{filter}
-use Rattle.qv_words.specs.Tree.{Tree}
 use Rattle.qv_words.specs.Sums.{Monomial, has_factors}
 use Rattle.qv_rewrite_sums.specs.declared.product.Product.{Product}
 use Rattle.qv_rewrite_sums.specs.Held.{monomial_at, sum_at}

@@ -1,9 +1,9 @@
-use Rattle.std.proofs.Common.{◌≡◌, ◌^◌, ℕ, Option, Some, None, List, Vec, length, ap, sym, ◌∙◌, subst}
+use Rattle.std.proofs.Common.{◌≡◌, ◌^◌, ℕ, Some, List, Vec, ap, sym, ◌∙◌, subst}
 use Rattle.std.specs.declared.alloc.Global.{Global}
 use Rattle.std.specs.Prelude.{option_map, All}
 use Rattle.std.proofs.lemmas.List.{length-map}
 use Rattle.qv_store.specs.Walks.{IsEarlier}
-use Rattle.qv_words.specs.Sums.{Polynomial, combined, polynomials}
+use Rattle.qv_words.specs.Sums.{combined, polynomials}
 use Rattle.qv_store.specs.Nodes.{trees_at}
 use Rattle.qv_rewrite_sums.specs.declared.product.Product.{Product}
 use Rattle.qv_rewrite_sums.specs.Held.{sum_at, modulo, short_raw, HaveWords}

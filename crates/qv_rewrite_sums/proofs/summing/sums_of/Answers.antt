@@ -1,7 +1,6 @@
-use Rattle.std.proofs.Common.{◌≡◌, [], ◌∷◌, ◌++◌, length, ap, sym, ◌∙◌, subst, arith, length-append}
+use Rattle.std.proofs.Common.{[], ◌∷◌, length, ap, arith, length-append}
 use Rattle.qv_store.specs.Nodes.{tree_at}
 use Rattle.qv_store.proofs.Replacement.{grows-more}
-use Rattle.qv_rewrite_sums.specs.Held.{sums_in, AreSums}
 use Rattle.qv_rewrite_sums.proofs.Built.{grows-itself}
 use Rattle.qv_rewrite_sums.proofs.Found.{next-low, next-of, sums-more, sums-none}
 use Rattle.qv_rewrite_sums.proofs.summing.sums_of.Goals as goal

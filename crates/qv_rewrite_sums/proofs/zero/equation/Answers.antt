@@ -1,10 +1,9 @@
-use Rattle.std.proofs.Common.{◌≡◌, ap, sym, ◌∙◌, subst}
-use Rattle.qv_words.specs.declared.sort.Sort.TheVariants.{Bool, Bits}
+use Rattle.std.proofs.Common.{sym, subst}
+use Rattle.qv_words.specs.declared.sort.Sort.TheVariants.{Bool}
 use Rattle.qv_words.specs.declared.op.Op.TheVariants.{Equal}
-use Rattle.qv_words.specs.Tree.{Tree, tree_sort}
 use Rattle.qv_words.specs.Sums.{sum_term}
 use Rattle.qv_store.specs.Stores.{StandsAt}
-use Rattle.qv_store.proofs.Replacement.{grown-tree, grows-more, if-ok}
+use Rattle.qv_store.proofs.Replacement.{if-ok}
 use Rattle.qv_rewrite_sums.specs.Held.{sum_at, IsWord, AreOfWords}
 use Rattle.qv_rewrite_sums.proofs.Fitting.{equal-rank, sort-binary}
 use Rattle.qv_rewrite_sums.proofs.Built.{second-sum, two-terms}

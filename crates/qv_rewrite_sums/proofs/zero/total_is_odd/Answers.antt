@@ -1,4 +1,4 @@
-use Rattle.std.proofs.Common.{◌≡◌, ◌==◌, ◌+◌, ◌%◌, ℕ, List, ap, ◌∙◌, sym, arith, lit<}
+use Rattle.std.proofs.Common.{◌==◌, ◌+◌, ◌%◌, ℕ, List, ap, ◌∙◌, arith}
 use Rattle.std.proofs.lemmas.List.{take_all}
 use Rattle.std.proofs.lemmas.Nat.{mod_below}
 use Rattle.qv_rewrite_sums.specs.declared.product.Product.{Product}

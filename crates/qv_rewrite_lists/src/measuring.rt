@@ -1,0 +1,133 @@
+//! How hard a list of formulas looks.
+
+ghost use Rattle.std.specs.Prelude.{◌<◌, ◌≤◌, All, OnOk, length};
+ghost use Rattle.qv_store.specs.Walks.{IsWalk};
+
+use qv_store::{Id, NoMemory, Node, Store, Walk};
+use qv_words::Op;
+use std::alloc::Global;
+
+// Formulas with more distinct terms aren't given to the pass of sums.
+const MOST_TERMS: usize = 200_000;
+
+// What the distinct terms of a list of formulas are.
+#[derive(Clone, Copy)]
+pub(crate) struct Measure {
+    // A formula of it is `true` or `false`.
+    pub(crate) known: bool,
+    // It has an addition, a subtraction, an opposite or a multiplication.
+    pub(crate) sums: bool,
+    // How many multiplications it has of two terms that are no literals.
+    pub(crate) products: usize,
+    // How many terms it has.
+    pub(crate) terms: usize,
+}
+
+impl Measure {
+    // Whether the pass of sums is tried.
+    pub(crate) fn suits_sums(&self) -> bool {
+        self.sums && self.terms <= MOST_TERMS
+    }
+
+    // Whether a list looks easier than another.
+    pub(crate) fn is_better(&self, other: &Measure) -> bool {
+        if self.known && !other.known {
+            return true;
+        }
+        if self.products != other.products {
+            return self.products < other.products;
+        }
+        self.terms < other.terms
+    }
+}
+
+// What the distinct terms of a list are.
+pub(crate) fn measure_list(alloc: Global, store: &Store, list: &[Id]) -> Result<Measure, NoMemory>
+    requires { All (λ id. id < length store.now) list.now }
+{
+    let mut walk = Walk::new(alloc);
+    visit_all(&mut walk, store, list)?;
+    Ok(Measure {
+        known: has_literal(store, list),
+        sums: has_sum(store, &walk),
+        products: count_products(store, &walk),
+        terms: walk.len(),
+    })
+}
+
+// The terms of formulas.
+fn visit_all(walk: &mut Walk, store: &Store, list: &[Id]) -> Result<(), NoMemory>
+    requires ids { All (λ id. id < length store.now) list.now }
+    requires walk { IsWalk store.now walk.old }
+    ensures walk { IsWalk store.now walk.new }
+{
+    'formulas: for id in list {
+        walk.visit(store, *id)?;
+    }
+    Ok(())
+}
+
+// Whether one of the formulas is a literal.
+fn has_literal(store: &Store, list: &[Id]) -> bool
+    requires { All (λ id. id < length store.now) list.now }
+{
+    'formulas: for id in list {
+        if is_literal(store, *id) {
+            return true;
+        }
+    }
+    false
+}
+
+// Whether the pass of sums may change one of the terms.
+fn has_sum(store: &Store, walk: &Walk) -> bool
+    requires { IsWalk store.now walk.now }
+{
+    'terms: for id in walk.ids() {
+        if let Node::App { op, .. } = store.node(*id)
+            && is_sum(*op)
+        {
+            return true;
+        }
+    }
+    false
+}
+
+// Whether an operator makes sums and products.
+fn is_sum(op: Op) -> bool {
+    matches!(op, Op::BvAdd | Op::BvSub | Op::BvNeg | Op::BvMul)
+}
+
+// How many multiplications of two terms that are no literals the terms are.
+fn count_products(store: &Store, walk: &Walk) -> usize
+    requires { IsWalk store.now walk.now }
+    ensures { result ≤ length walk.now }
+{
+    let mut count = 0;
+    'terms: for id in walk.ids() {
+        if is_product(store, *id) {
+            count += 1;
+        }
+    }
+    count
+}
+
+// Whether a term is such a multiplication.
+fn is_product(store: &Store, id: Id) -> bool
+    requires { id < length store.now }
+{
+    match store.node(id) {
+        Node::App {
+            op: Op::BvMul,
+            kids,
+        } => !has_literal(store, kids.as_slice()),
+        _ => false,
+    }
+}
+
+// Whether a term is a literal.
+fn is_literal(store: &Store, id: Id) -> bool
+    requires { id < length store.now }
+{
+    matches!(store.node(id), Node::Lit { .. })
+}
