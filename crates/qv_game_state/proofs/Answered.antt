@@ -1,5 +1,5 @@
 -- What a lane may be charged for, and what stands after it was asked.
-use Rattle.std.proofs.Common.{◌≡◌, ℕ, ◌+◌, ◌-◌, ◌≤◌, ◌<◌, ◌^◌, Some, List, [], ◌∷◌, ◌++◌, length, set, slice_get, refl, sym, ap, ◌∙◌, subst, inl, arith}
+use Rattle.std.proofs.Common.{◌≡◌, ℕ, ◌+◌, ◌-◌, ◌≤◌, ◌<◌, ◌^◌, Some, List, [], ◌∷◌, ◌++◌, length, set, slice_get, sym, ap, ◌∙◌, subst, arith}
 use Rattle.std.specs.Prelude.{IsSomeAnd}
 use Rattle.std.specs.List.{All}
 use Rattle.std.proofs.lemmas.List.{map-append}
@@ -16,7 +16,8 @@ use Rattle.qv_store.specs.Nodes.{tree_at}
 use Rattle.qv_store.specs.Problems.{quantifier_of}
 use Rattle.qv_store.specs.Walks.{named}
 use Rattle.qv_meter.specs.Played.{IsPlayed, IsUndecided}
-use Rattle.qv_meter.specs.Queries.{IsQueryLevel, query_list}
+use Rattle.qv_meter.specs.Queries.{IsQueryLevel, StandsForQuery}
+use Rattle.qv_meter.proofs.Standing.{stands-asked}
 use Rattle.qv_meter.specs.Records.{IsLaneOf, IsMetering, Kept, Metering, Record, in_lane, position_of}
 use Rattle.qv_meter.specs.Units.{IsOverLarge, IsQuery, MayGoOn, Query as QueryLane}
 use Rattle.qv_meter.specs.Charging.{ExceedsVariables, MayCharge, OfNewest, SameButConflicts, conflict_count, conflict_limit}
@@ -42,26 +43,27 @@ may-name trees p entries limit tallies q places point level m h =
     (subst (λ (x : Problem). IsQueryLevel x level) (sym h.charged.problem) h.of_level)
 
 -- the lane's formulas at its level
-pub lane-at : (trees : List Tree) (p : Problem) (entries : List Entry) (limit level : ℕ) (q : Query) → 2 ≤ level → IsQueryAt trees p entries limit (level - 2) q → IsLane trees (query_list p entries (quantifier_of q.winner) level) q.lane
-lane-at trees p entries limit level q low h =
-    subst (λ (k : ℕ). IsLane trees (query_list p entries (quantifier_of q.winner) k) q.lane) (level-is level low) h.lane
+pub stands-at : (trees : List Tree) (p : Problem) (entries : List Entry) (limit level : ℕ) (q : Query) → 2 ≤ level → IsQueryAt trees p entries limit (level - 2) q → StandsForQuery p entries (quantifier_of q.winner) level (named trees q.list.items)
+stands-at trees p entries limit level q low h =
+    subst (λ (k : ℕ). StandsForQuery p entries (quantifier_of q.winner) k (named trees q.list.items)) (level-is level low) h.list
 
-query-is : (p x : Problem) (entries : List Entry) (n level : ℕ) (winner : Quantifier) → x ≡ p → n ≡ length entries → IsPlayed p entries → IsUndecided entries → IsQueryLevel p level → IsQuery x n entries winner level (query_list p entries winner level)
-query-is p x entries n level winner problem count played undecided asked =
-    subst (λ (y : Problem). IsQuery y n entries winner level (query_list p entries winner level)) (sym problem)
-    (record { played = played; counted = sym count; undecided = undecided; asked = asked; list = inl refl })
+query-is : (p x : Problem) (entries : List Entry) (n level : ℕ) (winner : Quantifier) (formulas : List Tree) → x ≡ p → n ≡ length entries → IsPlayed p entries → IsUndecided entries → IsQueryLevel p level → StandsForQuery p entries winner level formulas → IsQuery x n entries winner level formulas
+query-is p x entries n level winner formulas problem count played undecided asked stands =
+    subst (λ (y : Problem). IsQuery y n entries winner level formulas) (sym problem)
+    (record { played = played; counted = sym count; undecided = undecided; asked = asked; list = stands-asked p entries winner level formulas stands })
 
 pub may-charge : (trees : List Tree) (p : Problem) (entries : List Entry) (limit : ℕ) (tallies : List Tally) (q : Query) (places : List ℕ) (point : List Word) (level : ℕ) (m : Metering) → IsAsked trees p entries limit tallies q places point level m → MayCharge (in_lane (QueryLane (quantifier_of q.winner) level) m) (base_of q.lane) (steps_of q.lane)
 may-charge trees p entries limit tallies q places point level m h =
     let winner = quantifier_of q.winner in
-    let lane = lane-at trees p entries limit level q h.of_level.low h.query in
+    let lane = h.query.lane in
+    let stands = stands-at trees p entries limit level q h.of_level.low h.query in
     let c = h.charged in
     let at : slice_get c.kept.tallies (position_of (QueryLane winner level)) ≡ Some q.lane.learnt =
     ap (λ (k : ℕ). slice_get c.kept.tallies (position_of (QueryLane winner k))) (sym (level-is level h.of_level.low)) ∙ c.each (level - 2) (tally_of q) h.tally in
     let goes : MayGoOn c.kept.problem c.newest.instances (QueryLane winner level) q.lane.learnt (base_of q.lane) (steps_of q.lane) = record {
       entries = entries;
-      formulas = query_list p entries winner level;
-      list = query-is p c.kept.problem entries c.newest.instances level winner c.problem c.instances h.played h.undecided h.of_level;
+      formulas = named trees q.list.items;
+      list = query-is p c.kept.problem entries c.newest.instances level winner (named trees q.list.items) c.problem c.instances h.played h.undecided h.of_level stands;
       clauses = lane.core;
       charged = sym lane.learnt;
     } in
@@ -76,7 +78,7 @@ tally-is m base steps learnt may is r k at kept =
     let two = of-some r.kept _ k kept one in
     two.1 ∙ ap Some (sym (is ∙ two.2.charged))
 
-pub asked-after : (trees : List Tree) (p : Problem) (entries : List Entry) (limit : ℕ) (tallies : List Tally) (old new : Query) (places : List ℕ) (point : List Word) (level : ℕ) (m after : Metering) → IsAsked trees p entries limit tallies old places point level m → new.winner ≡ old.winner → new.list.items ≡ old.list.items → IsLane trees (query_list p entries (quantifier_of old.winner) level) new.lane → variables_of new.lane ≡ variables_of old.lane → SameButConflicts (in_lane (QueryLane (quantifier_of old.winner) level) m) after → MayCharge after (base_of new.lane) (steps_of new.lane) → IsQueryAt trees p entries limit (level - 2) new × IsCharged p (length entries) limit (set tallies (level - 2) (tally_of new)) after
+pub asked-after : (trees : List Tree) (p : Problem) (entries : List Entry) (limit : ℕ) (tallies : List Tally) (old new : Query) (places : List ℕ) (point : List Word) (level : ℕ) (m after : Metering) → IsAsked trees p entries limit tallies old places point level m → new.winner ≡ old.winner → new.list.items ≡ old.list.items → IsLane trees (named trees old.list.items) new.lane → variables_of new.lane ≡ variables_of old.lane → SameButConflicts (in_lane (QueryLane (quantifier_of old.winner) level) m) after → MayCharge after (base_of new.lane) (steps_of new.lane) → IsQueryAt trees p entries limit (level - 2) new × IsCharged p (length entries) limit (set tallies (level - 2) (tally_of new)) after
 asked-after trees p entries limit tallies old new places point level m after h winner list lane variables same may =
     let w = quantifier_of old.winner in
     let who : quantifier_of new.winner ≡ w = ap quantifier_of winner in
@@ -87,9 +89,9 @@ asked-after trees p entries limit tallies old new places point level m after h w
       record {
         opponent = λ b at. who ∙ h.query.opponent b at;
         below = subst (λ (ns : List ℕ). All (λ n. n < length trees) ns) (sym list) h.query.below;
-        list = ap (named trees) list ∙ h.query.list ∙ ap (λ (v : Quantifier). query_list p entries v (level - 2 + 2)) (sym who);
-        lane = subst (λ (v : Quantifier). IsLane trees (query_list p entries v (level - 2 + 2)) new.lane) (sym who)
-            (subst (λ (k : ℕ). IsLane trees (query_list p entries w k) new.lane) (sym up) lane);
+        list = subst (λ (v : Quantifier). StandsForQuery p entries v (level - 2 + 2) (named trees new.list.items)) (sym who)
+            (subst (λ (ns : List ℕ). StandsForQuery p entries w (level - 2 + 2) (named trees ns)) (sym list) h.query.list);
+        lane = subst (λ (ns : List ℕ). IsLane trees (named trees ns) new.lane) (sym list) lane;
         variables = variables ∙ h.query.variables;
       },
       subst (λ (v : Quantifier). IsCharged p (length entries) limit (set tallies (level - 2) (record { winner = v; count = new.lane.learnt })) after) (sym who) charged,
@@ -99,7 +101,7 @@ asked-after trees p entries limit tallies old new places point level m after h w
 pub asked-whole : (trees : List Tree) (p : Problem) (entries : List Entry) (limit : ℕ) (tallies : List Tally) (old new : Query) (places : List ℕ) (point : List Word) (level : ℕ) (m mid after : Metering) → new.winner ≡ old.winner → new.list.items ≡ old.list.items → mid ≡ in_lane (QueryLane (quantifier_of old.winner) level) m → ((formulas : List Tree) → IsLane trees formulas old.lane → IsLane trees formulas new.lane) → variables_of new.lane ≡ variables_of old.lane → SameButConflicts mid after → MayCharge after (base_of new.lane) (steps_of new.lane) → IsAsked trees p entries limit tallies old places point level m → IsQueryAt trees p entries limit (level - 2) new × IsCharged p (length entries) limit (set tallies (level - 2) (tally_of new)) after
 asked-whole trees p entries limit tallies old new places point level m mid after winner list named_is stays variables same may h =
     asked-after trees p entries limit tallies old new places point level m after h winner list
-    (stays (query_list p entries (quantifier_of old.winner) level) (lane-at trees p entries limit level old h.of_level.low h.query)) variables
+    (stays (named trees old.list.items) h.query.lane) variables
     (subst (λ (x : Metering). SameButConflicts x after) named_is same) may
 
 -- a lane has learnt few clauses

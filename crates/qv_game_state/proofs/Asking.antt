@@ -4,6 +4,7 @@ use Rattle.std.specs.Prelude.{IfOk, OnOk}
 use Rattle.std.specs.List.{All}
 use Rattle.std.proofs.lemmas.List.{length-map}
 use Rattle.std.proofs.lemmas.List.Elements.{All-take}
+use Rattle.std.proofs.lemmas.Option.{same_Some}
 use Rattle.qv_words.specs.declared.sort.Sort.{Sort}
 use Rattle.qv_words.specs.declared.word.Word.{Word}
 use Rattle.qv_words.specs.Tree.{Tree}
@@ -14,7 +15,7 @@ use Rattle.qv_words.proofs.Elements.{get-map}
 use Rattle.qv_store.specs.Walks.{named}
 use Rattle.qv_entries.specs.Rows.{Row, IsRowIn, entries_in}
 use Rattle.qv_meter.specs.Played.{IsPlayed, IsSettled, IsUndecided}
-use Rattle.qv_meter.specs.Queries.{block_count, query_list}
+use Rattle.qv_meter.specs.Queries.{StandsForQuery, block_count}
 use Rattle.qv_meter.specs.Records.{Metering}
 use Rattle.qv_game_play_laws.specs.PlayLaws.{sorts_below}
 use Rattle.qv_game_entry_laws.specs.PointLaws.{places_from}
@@ -22,9 +23,9 @@ use Rattle.qv_store.specs.Problems.{quantifier_of}
 use Rattle.qv_game_lanes.specs.Asking.{IsAnswer, MakeTrue}
 use Rattle.qv_game_lanes.specs.declared.asking.Answer.{Answer}
 use Rattle.qv_game_state.specs.declared.query.Query.{Query}
-use Rattle.qv_game_state.specs.Asking.{IsAnswered, IsAnswerAt, IsAsked}
+use Rattle.qv_game_state.specs.Asking.{IsAnswerAt, IsAsked}
 use Rattle.qv_game_state.specs.declared.game.Game.{Game}
-use Rattle.qv_game_state.specs.Spots.{all_sorts, IsSpot}
+use Rattle.qv_game_state.specs.Spots.{all_sorts, BlockAt, IsSpot}
 use Rattle.qv_game_state.specs.Charges.{IsCharged, Tally}
 use Rattle.qv_game_state.specs.Playing.{tally_of, AreQueries, IsGame, IsPlaying, IsQueryAt}
 use Rattle.qv_game_state.specs.Spans.{Span, span_of}
@@ -168,7 +169,7 @@ sought-stays trees p limit g new level s q r ids m after h is span at places spa
     }
 
 -- and what it gives are values of all places
-pub sought-sorts : (trees : List Tree) (p : Problem) (limit : ℕ) (g : Game) (level : ℕ) (m : Metering) (s : Kept) (q : Query) (ids : List ℕ) (values : List Word) → IsPlaying trees p limit g 1 [] m → level ≡ length g.spans.items → slice_get g.spans.items (level - 1) ≡ Some s → slice_get g.queries.items (level - 1) ≡ Some q → ids ≡ take s.end g.places.items → ((x : Problem) (es : List Entry) (l : ℕ) (ts : List Tally) → IsAsked trees x es l ts q ids [] (level + 1) m → MakeTrue (query_list x es (quantifier_of q.winner) (level + 1)) (sorts_below x (level + 1)) [] values) → sorts_of values ≡ sorts_below p (block_count p + 1)
+pub sought-sorts : (trees : List Tree) (p : Problem) (limit : ℕ) (g : Game) (level : ℕ) (m : Metering) (s : Kept) (q : Query) (ids : List ℕ) (values : List Word) → IsPlaying trees p limit g 1 [] m → level ≡ length g.spans.items → slice_get g.spans.items (level - 1) ≡ Some s → slice_get g.queries.items (level - 1) ≡ Some q → ids ≡ take s.end g.places.items → ((x : Problem) (es : List Entry) (l : ℕ) (ts : List Tally) → IsAsked trees x es l ts q ids [] (level + 1) m → MakeTrue (named trees q.list.items) (sorts_below x (level + 1)) [] values) → sorts_of values ≡ sorts_below p (block_count p + 1)
 sought-sorts trees p limit g level m s q ids values h is span at places answered =
     let may = may-seek trees p limit g level m s q h is span at in
     let given = subst (λ (ns : List ℕ). IsAsked trees p (entries_in trees g.entries) limit (map tally_of g.queries.items) q ns [] (level + 1) m) (sym places) may in
@@ -176,15 +177,23 @@ sought-sorts trees p limit g level m s q ids values h is span at places answered
     ∙ ap (λ (n : ℕ). sorts_below p (n + 1)) (is ∙ spans-are trees p limit g m h.game)
 
 -- what the level's query was answered
-pub asked-answered : (trees : List Tree) (p : Problem) (limit : ℕ) (g : Game) (level : ℕ) (point : List Word) (m : Metering) (s : Kept) (q : Query) (ids : List ℕ) (answer : Answer) → IsPlaying trees p limit g level point m → slice_get g.spans.items (level - 1) ≡ Some s → slice_get g.queries.items (level - 1) ≡ Some q → ids ≡ take s.end g.places.items → ((x : Problem) (es : List Entry) (l : ℕ) (ts : List Tally) → IsAsked trees x es l ts q ids point (level + 1) m → IsAnswerAt x es q.winner (level + 1) point answer) → IsAnswered p (entries_in trees g.entries) level point answer
-asked-answered trees p limit g level point m s q ids answer h span at places answered b block =
+pub asked-answered : (trees : List Tree) (p : Problem) (limit : ℕ) (g : Game) (level : ℕ) (point : List Word) (m : Metering) (s : Kept) (q r : Query) (ids : List ℕ) (answer : Answer) → IsPlaying trees p limit g level point m → slice_get g.spans.items (level - 1) ≡ Some s → slice_get g.queries.items (level - 1) ≡ Some q → ids ≡ take s.end g.places.items → r.list.items ≡ q.list.items → ((x : Problem) (es : List Entry) (l : ℕ) (ts : List Tally) → IsAsked trees x es l ts q ids point (level + 1) m → IsAnswerAt trees x q (level + 1) point answer) → (x : Query) → slice_get (set g.queries.items (level - 1) r) (level - 1) ≡ Some x → IsAnswerAt trees p x (level + 1) point answer
+asked-answered trees p limit g level point m s q r ids answer h span at places list answered x there =
     let low = h.spot.low in
     let f = level-span trees p limit g level m s h.game low span in
     let may = may-ask trees p limit g level point m (span_of s) f.0 q h f.1 at in
     let given = subst (λ (ns : List ℕ). IsAsked trees p (entries_in trees g.entries) limit (map tally_of g.queries.items) q ns point (level + 1) m) (sym places) may in
-    let who : quantifier_of q.winner ≡ other b.owner = (h.game.queries (level - 1) q at).opponent b block in
-    subst (λ (w : Quantifier). IsAnswer (query_list p (entries_in trees g.entries) w (level + 1)) (sorts_below p (level + 1)) point answer) who
+    let here : Some r ≡ Some x = sym (set-here g.queries.items (level - 1) q r at) ∙ there in
+    let same : q.list.items ≡ x.list.items = sym list ∙ ap (λ (y : Query). y.list.items) (same_Some r x here) in
+    subst (λ (ns : List ℕ). IsAnswer (named trees ns) (sorts_below p (level + 1)) point answer) same
     (answered p (entries_in trees g.entries) limit (map tally_of g.queries.items) given)
+
+-- what the query of a level's block has
+pub stands-above : (trees : List Tree) (p : Problem) (entries : List Entry) (limit level : ℕ) (q : Query) (b : Block) → 1 ≤ level → BlockAt p level b → IsQueryAt trees p entries limit (level - 1) q → StandsForQuery p entries (other b.owner) (level + 1) (named trees q.list.items)
+stands-above trees p entries limit level q b low at h =
+    let up : level - 1 + 2 ≡ level + 1 = omega (arith, low) in
+    subst (λ (w : Quantifier). StandsForQuery p entries w (level + 1) (named trees q.list.items)) (h.opponent b at)
+    (subst (λ (k : ℕ). StandsForQuery p entries (quantifier_of q.winner) k (named trees q.list.items)) up h.list)
 
 pub if-ok : {A E : Type 0} (r : Result A E) {P Q : A → Type 0} → ((x : A) → P x → Q x) → IfOk r P → IfOk r Q
 if-ok (Ok x) f h = f x h

@@ -1,8 +1,7 @@
 -- A game at its start.
-use Rattle.std.proofs.Common.{◌≡◌, ◌≢◌, ℕ, suc, ◌+◌, ◌-◌, ◌<◌, ◌==◌, true, Some, List, [], ◌∷◌, ◌++◌, length, map, set, sum, take, slice_get, inl, inr, refl, sym, ap, ◌∙◌, subst, arith}
+use Rattle.std.proofs.Common.{◌≡◌, ◌≢◌, ℕ, suc, ◌+◌, ◌-◌, ◌<◌, Some, List, [], ◌∷◌, ◌++◌, length, map, set, sum, take, slice_get, inl, inr, refl, sym, ap, ◌∙◌, subst, arith}
 use Rattle.std.specs.Prelude.{IsSomeAnd}
 use Rattle.std.specs.List.{All, AllByRecursion}
-use Rattle.std.proofs.lemmas.Bool.{cases_Bool, eq-eqb, eqb-true}
 use Rattle.std.proofs.lemmas.List.{length-map, map-append}
 use Rattle.std.proofs.lemmas.List.Elements.{All-from_recursion, recursion_from_All}
 use Rattle.std.proofs.lemmas.Option.{same_Some, slice_get_within}
@@ -25,10 +24,12 @@ use Rattle.qv_store.specs.declared.problem.Place.{Place}
 use Rattle.qv_store.specs.Problems.{place_of}
 use Rattle.qv_game_state.proofs.Keeping.{below-stays, named-stays}
 use Rattle.qv_game_state.proofs.Telling.{told-tallies}
-use Rattle.qv_meter.specs.Queries.{IsQueryLevel, block_count, last_query, query_list}
+use Rattle.qv_meter.specs.Queries.{IsQueryLevel, StandsForQuery, block_count, last_query, query_list}
 use Rattle.qv_meter.specs.Records.{IsMetering, Metering, lane_count, position_of}
 use Rattle.qv_meter.specs.Units.{Query as QueryLane}
 use Rattle.qv_meter.proofs.Positions.{within}
+use Rattle.qv_meter.proofs.Standing.{list-inner, list-last, stands-asked}
+use Rattle.qv_rewrite_passes.specs.Passes.{IsBehind}
 use Rattle.qv_game_lanes.specs.Lanes.{IsLane}
 use Rattle.qv_game_entry_laws.specs.PointLaws.{places_from}
 use Rattle.qv_game_state.specs.declared.query.Query.{Query}
@@ -38,7 +39,7 @@ use Rattle.qv_game_state.specs.Charges.{IsCharged, Tally}
 use Rattle.qv_game_state.specs.Playing.{tally_of, AreQueries, IsGame, IsQueryAt}
 use Rattle.qv_game_state.specs.Spans.{Span, span_of, spans_from}
 use Rattle.qv_game_state.specs.Spots.{all_sorts}
-use Rattle.qv_game_state.specs.Starting.{AreNew, IsNew, IsUncharged}
+use Rattle.qv_game_state.specs.Starting.{AreNew, IsLastFormula, IsNew, IsUncharged}
 use Rattle.qv_game_state.proofs.Blocks.{span-at}
 use Rattle.qv_game_state.proofs.Counting.{at-or_not, one-within, set-here, set-there}
 
@@ -91,28 +92,22 @@ last-of : (p : Problem) (q : Quantifier) → last_query p (other q) ≡ last_reg
 last-of p Existential = refl
 last-of p Universal = refl
 
-list-last : (p : Problem) (winner : Quantifier) (level : ℕ) → level ≡ block_count p + 1 → query_list p [] winner level ≡ last_query p winner ∷ []
-list-last p winner level e = let test : (level == block_count p + 1) ≡ true = eq-eqb level (block_count p + 1) e in rw test refl
-
-list-inner : (p : Problem) (winner : Quantifier) (level : ℕ) → (level ≡ block_count p + 1 → ⊥) → query_list p [] winner level ≡ []
-list-inner p winner level other = elim (cases_Bool (level == block_count p + 1)) [
-  | inl y ↦ absurd (other (eqb-true level (block_count p + 1) y))
-  | inr n ↦ rw n refl
-]
-
 -- queries without formulas, of which the last one is told the last formula
 pub record IsBegun (trees : List Tree) (p : Problem) (limit : ℕ) (queries : List Query) (k : ℕ) (q : Query) (s : Span) (formula : ℕ) : Type 0 where
   pub new : AreNew trees limit (spans_from 0 (blocks_of p.prefix)) queries
   pub last : suc k ≡ block_count p
   pub at : slice_get queries k ≡ Some q
   pub span : slice_get (spans_from 0 (blocks_of p.prefix)) k ≡ Some s
-  pub stands : StandsAt trees formula (last_region p s.owner)
+  pub is_last : IsLastFormula trees p s.owner formula
 
-told : (trees : List Tree) (p : Problem) (limit : ℕ) (queries : List Query) (k : ℕ) (q : Query) (s : Span) (formula : ℕ) → IsBegun trees p limit queries k q s formula → tree_at trees formula ∷ [] ≡ query_list p [] (quantifier_of q.winner) (k + 2)
+told : (trees : List Tree) (p : Problem) (limit : ℕ) (queries : List Query) (k : ℕ) (q : Query) (s : Span) (formula : ℕ) → IsBegun trees p limit queries k q s formula → StandsForQuery p [] (quantifier_of q.winner) (k + 2) (tree_at trees formula ∷ [])
 told trees p limit queries k q s formula h =
-    let last = h.last in
+    let before = h.last in
     let winner = (h.new.each k q s h.at h.span).0 in
-    ap (λ (t : Tree). t ∷ []) (h.stands.tree ∙ sym (last-of p s.owner) ∙ ap (last_query p) (sym winner)) ∙ sym (list-last p (quantifier_of q.winner) (k + 2) (omega (arith, last)))
+    let last : k + 2 ≡ block_count p + 1 = omega (arith, before) in
+    let list : last_region p s.owner ∷ [] ≡ query_list p [] (quantifier_of q.winner) (k + 2) =
+    ap (λ (t : Tree). t ∷ []) (sym (last-of p s.owner) ∙ ap (last_query p) (sym winner)) ∙ sym (list-last p [] (quantifier_of q.winner) (k + 2) last) in
+    inl (last, subst (λ (ts : List Tree). IsBehind ts (tree_at trees formula ∷ [])) list h.is_last.behind)
 
 pub may-begin : (trees : List Tree) (p : Problem) (limit : ℕ) (queries : List Query) (k : ℕ) (q : Query) (s : Span) (formula : ℕ) (m : Metering) → IsBegun trees p limit queries k q s formula → IsCharged p 0 limit (map tally_of queries) m → MayDeny trees p 0 limit (k + 2) [] q formula (map tally_of queries) m
 may-begin trees p limit queries k q s formula m h charged =
@@ -129,7 +124,7 @@ may-begin trees p limit queries k q s formula m h charged =
         counted = refl;
         undecided = All-from_recursion (λ (e : Entry). e.level ≢ 1) [] tt;
         asked = asked;
-        list = inl (told trees p limit queries k q s formula h);
+        list = stands-asked p [] (quantifier_of q.winner) (k + 2) (tree_at trees formula ∷ []) (told trees p limit queries k q s formula h);
       };
       lane = is.lane;
       variables = is.variables;
@@ -150,14 +145,13 @@ begun-queries trees p limit queries k q r s formula h d i x get = elim (at-or_no
       let same : r ≡ x = cc in
       let one = (h.new.each k q s h.at h.span).1 in
       let who : quantifier_of r.winner ≡ quantifier_of q.winner = ap quantifier_of d.winner in
-      let whole : tree_at trees formula ∷ [] ≡ query_list p [] (quantifier_of r.winner) (k + 2) =
-      told trees p limit queries k q s formula h ∙ ap (λ (v : Quantifier). query_list p [] v (k + 2)) (sym who) in
+      let whole = subst (λ (v : Quantifier). StandsForQuery p [] v (k + 2) (tree_at trees formula ∷ [])) (sym who) (told trees p limit queries k q s formula h) in
       let ids : r.list.items ≡ formula ∷ [] = d.list ∙ ap (λ (ns : List ℕ). ns ++ formula ∷ []) one.list in
       let there : IsQueryAt trees p [] limit k r = record {
         opponent = λ b at. who ∙ begun-at trees p limit queries k q s h.new h.at h.span b at;
-        below = subst (λ (ns : List ℕ). All (λ n. n < length trees) ns) (sym ids) (All-from_recursion (λ n. n < length trees) (formula ∷ []) (h.stands.below, tt));
-        list = ap (named trees) ids ∙ whole;
-        lane = subst (λ (ts : List Tree). IsLane trees ts r.lane) whole d.lane;
+        below = subst (λ (ns : List ℕ). All (λ n. n < length trees) ns) (sym ids) (All-from_recursion (λ n. n < length trees) (formula ∷ []) (h.is_last.below, tt));
+        list = subst (λ (ns : List ℕ). StandsForQuery p [] (quantifier_of r.winner) (k + 2) (named trees ns)) (sym ids) whole;
+        lane = subst (λ (ns : List ℕ). IsLane trees (named trees ns) r.lane) (sym ids) d.lane;
         variables = d.variables ∙ one.variables;
       } in
       subst (λ (j : ℕ). IsQueryAt trees p [] limit j x) (sym is) (subst (IsQueryAt trees p [] limit k) same there)
@@ -168,11 +162,12 @@ begun-queries trees p limit queries k q r s formula h d i x get = elim (at-or_no
       let t = found-at (spans_from 0 (blocks_of p.prefix)) i (omega (arith, many, low)) in
       let one = (h.new.each i x t.0 old t.1).1 in
       let last = h.last in
-      let none : query_list p [] (quantifier_of x.winner) (i + 2) ≡ [] = list-inner p (quantifier_of x.winner) (i + 2) (λ e. away (omega (arith, e, last))) in
+      let inner : i + 2 ≡ block_count p + 1 → ⊥ = λ e. away (omega (arith, e, last)) in
+      let none : named trees x.list.items ≡ [] = ap (named trees) one.list in
       record {
         opponent = λ b at. begun-at trees p limit queries i x t.0 h.new old t.1 b at;
         below = subst (λ (ns : List ℕ). All (λ n. n < length trees) ns) (sym one.list) (All-from_recursion (λ n. n < length trees) [] tt);
-        list = ap (named trees) one.list ∙ sym none;
+        list = inr (inner, none ∙ sym (list-inner p [] (quantifier_of x.winner) (i + 2) inner));
         lane = subst (λ (ts : List Tree). IsLane trees ts x.lane) (sym none) one.lane;
         variables = one.variables;
       }

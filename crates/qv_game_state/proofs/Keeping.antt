@@ -1,5 +1,5 @@
 -- A game stays one where its store grows.
-use Rattle.std.proofs.Common.{◌≡◌, ℕ, ◌<◌, List, [], ◌∷◌, length, refl, sym, ap, ◌∙◌, subst}
+use Rattle.std.proofs.Common.{◌≡◌, ℕ, ◌+◌, ◌<◌, List, [], ◌∷◌, length, refl, sym, ap, ◌∙◌, subst}
 use Rattle.std.specs.List.{All, AllByRecursion}
 use Rattle.std.proofs.lemmas.List.Elements.{All-from_recursion, recursion_from_All}
 use Rattle.qv_words.specs.Tree.{Tree}
@@ -9,12 +9,13 @@ use Rattle.qv_words.proofs.Elements.{all-weaker}
 use Rattle.qv_store.specs.Nodes.{tree_at}
 use Rattle.qv_store.specs.Stores.{Grows}
 use Rattle.qv_store.specs.Walks.{named}
-use Rattle.qv_store.specs.Problems.{problem_in, places_of, IsPosedIn}
+use Rattle.qv_store.specs.Problems.{problem_in, places_of, quantifier_of, IsPosedIn}
 use Rattle.qv_store.specs.declared.problem.Problem.{Problem as Posed}
 use Rattle.qv_store.proofs.Replacement.{grown-tree, grown-within}
 use Rattle.qv_words.specs.GameLaws.{IsProblem}
 use Rattle.qv_entries.specs.Rows.{Row, IsRowIn, entries_in, entry_in}
 use Rattle.qv_meter.specs.Played.{IsPlayed}
+use Rattle.qv_meter.specs.Queries.{StandsForQuery}
 use Rattle.qv_meter.specs.Records.{Metering}
 use Rattle.qv_blast.proofs.Staying.{formulas-stay}
 use Rattle.qv_game_lanes.specs.Lanes.{IsLane}
@@ -70,8 +71,8 @@ pub query-stays : (old new : List Tree) (p : Problem) (entries : List Entry) (li
 query-stays old new p entries limit i q grows h = record {
   opponent = h.opponent;
   below = below-stays old new q.list.items grows h.below;
-  list = named-stays old new q.list.items grows h.below ∙ h.list;
-  lane = lane-stays old new _ q.lane grows h.lane;
+  list = subst (StandsForQuery p entries (quantifier_of q.winner) (i + 2)) (sym (named-stays old new q.list.items grows h.below)) h.list;
+  lane = subst (λ (ts : List Tree). IsLane new ts q.lane) (sym (named-stays old new q.list.items grows h.below)) (lane-stays old new (named old q.list.items) q.lane grows h.lane);
   variables = h.variables;
 }
 

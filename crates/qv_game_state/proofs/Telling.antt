@@ -21,6 +21,7 @@ use Rattle.qv_store.specs.Walks.{named}
 use Rattle.qv_meter.specs.Queries.{IsQueryLevel, block_count, query_list}
 use Rattle.qv_meter.specs.Records.{Metering}
 use Rattle.qv_meter.specs.Units.{IsQuery}
+use Rattle.qv_meter.proofs.Standing.{stands-asked, stands-inner, stands-same}
 use Rattle.qv_game_play_laws.proofs.Queries.{queries-are_over_places}
 use Rattle.qv_game_lanes.specs.Lanes.{IsLane}
 use Rattle.qv_game_state.specs.declared.query.Query.{Query}
@@ -38,8 +39,8 @@ unchanged trees p entries e limit i q other h =
     record {
       opponent = h.opponent;
       below = h.below;
-      list = h.list ∙ sym same;
-      lane = subst (λ (ts : List Tree). IsLane trees ts q.lane) (sym same) h.lane;
+      list = stands-same p entries (entries ++ e ∷ []) (quantifier_of q.winner) (i + 2) (named trees q.list.items) (sym same) h.list;
+      lane = h.lane;
       variables = h.variables;
     }
 
@@ -69,6 +70,18 @@ longer-list p entries e k w level high winner =
     subst (λ (v : Quantifier). query_list p (entries ++ e ∷ []) v (k + 2) ≡ query_list p entries v (k + 2) ++ negation e.region ∷ []) winner
     (told p entries e (k + 2) level (let at = level in omega (arith, at, high)))
 
+-- its level isn't behind the last block, so it has its query list
+away-from-last : (trees : List Tree) (p : Problem) (entries : List Entry) (e : Entry) (limit k : ℕ) (queries : List Query) (q : Query) (m : Metering) → IsAsking trees p entries e limit k queries q m → k + 2 ≡ block_count p + 1 → ⊥
+away-from-last trees p entries e limit k queries q m h f = let high = h.may.high in let level = h.level in omega (arith, high, level, f)
+
+asking-list : (old trees : List Tree) (p : Problem) (entries : List Entry) (e : Entry) (limit k : ℕ) (queries : List Query) (q : Query) (m : Metering) → IsAsking old p entries e limit k queries q m → Grows old trees → named trees q.list.items ≡ query_list p entries (quantifier_of q.winner) (k + 2)
+asking-list old trees p entries e limit k queries q m h grows =
+    stands-inner p entries (quantifier_of q.winner) (k + 2) (named trees q.list.items) (away-from-last old p entries e limit k queries q m h) (query-stays old trees p entries limit k q grows (h.may.are k q h.at)).list
+
+asking-lane : (old trees : List Tree) (p : Problem) (entries : List Entry) (e : Entry) (limit k : ℕ) (queries : List Query) (q : Query) (m : Metering) → IsAsking old p entries e limit k queries q m → Grows old trees → IsLane trees (query_list p entries (quantifier_of q.winner) (k + 2)) q.lane
+asking-lane old trees p entries e limit k queries q m h grows =
+    subst (λ (ts : List Tree). IsLane trees ts q.lane) (asking-list old trees p entries e limit k queries q m h grows) (query-stays old trees p entries limit k q grows (h.may.are k q h.at)).lane
+
 pub may-deny : (old trees : List Tree) (p : Problem) (entries : List Entry) (e : Entry) (limit k : ℕ) (queries : List Query) (q : Query) (formula : ℕ) (m : Metering) → IsAsking old p entries e limit k queries q m → Grows old trees → StandsAt trees formula (negation e.region) → MayDeny trees p (length entries + 1) limit (k + 2) (query_list p entries (quantifier_of q.winner) (k + 2)) q formula (map tally_of queries) m
 may-deny old trees p entries e limit k queries q formula m h grows stands =
     let w = quantifier_of q.winner in
@@ -84,14 +97,15 @@ may-deny old trees p entries e limit k queries q formula m h grows stands =
       counted = one;
       undecided = h.may.undecided;
       asked = asked;
-      list = inl (ap (λ (t : Tree). query_list p entries w (k + 2) ++ t ∷ []) stands.tree ∙ sym list);
+      list = stands-asked p (entries ++ e ∷ []) w (k + 2) (query_list p entries w (k + 2) ++ tree_at trees formula ∷ [])
+          (inr (away-from-last old p entries e limit k queries q m h, ap (λ (t : Tree). query_list p entries w (k + 2) ++ t ∷ []) stands.tree ∙ sym list));
     } in
     record {
       charged = h.may.charged;
-      list = is.list;
+      list = asking-list old trees p entries e limit k queries q m h grows;
       entries = entries ++ e ∷ [];
       longer = longer;
-      lane = is.lane;
+      lane = asking-lane old trees p entries e limit k queries q m h grows;
       variables = is.variables;
       tally = ap (slice_get (map tally_of queries)) (sym back) ∙ get-map tally_of queries k q h.at;
     }
@@ -101,7 +115,7 @@ pub told-formula : (trees : List Tree) (p : Problem) (entries : List Entry) (e :
 told-formula trees p entries e limit k queries q m problem h =
     let w = quantifier_of q.winner in
     let list = longer-list p entries e k w h.level h.may.high h.winner in
-    let over = queries-are_over_places p (entries ++ e ∷ []) w (k + 2) problem h.may.played in
+    let over = queries-are_over_places p (entries ++ e ∷ []) w (k + 2) (query_list p (entries ++ e ∷ []) w (k + 2)) problem h.may.played (inr (away-from-last trees p entries e limit k queries q m h, refl)) in
     let front = query_list p entries w (k + 2) in
     let all : All (λ t. IsTermOf t BoolSort) (front ++ negation e.region ∷ []) = subst (All (λ t. IsTermOf t BoolSort)) list over.0 in
     all-at (λ t. IsTermOf t BoolSort) (front ++ negation e.region ∷ []) (length front) (negation e.region)
@@ -115,12 +129,14 @@ denied-query old trees p entries e limit k queries q r formula m h grows stands 
     let list = longer-list p entries e k w h.level h.may.high h.winner in
     let whole : query_list p entries w (k + 2) ++ tree_at trees formula ∷ [] ≡ query_list p (entries ++ e ∷ []) (quantifier_of r.winner) (k + 2) =
     ap (λ (t : Tree). query_list p entries w (k + 2) ++ t ∷ []) stands.tree ∙ sym list ∙ ap (λ (v : Quantifier). query_list p (entries ++ e ∷ []) v (k + 2)) (sym who) in
+    let longer : named trees r.list.items ≡ query_list p entries w (k + 2) ++ tree_at trees formula ∷ [] =
+    ap (named trees) d.list ∙ map-append (tree_at trees) q.list.items (formula ∷ []) ∙ ap (λ (ts : List Tree). ts ++ tree_at trees formula ∷ []) (asking-list old trees p entries e limit k queries q m h grows) in
     record {
       opponent = λ b at. who ∙ is.opponent b at;
       below = subst (λ (ids : List ℕ). All (λ n. n < length trees) ids) (sym d.list)
           (All-from_recursion (λ n. n < length trees) (q.list.items ++ formula ∷ []) (both (λ n. n < length trees) q.list.items (formula ∷ []) (recursion_from_All (λ n. n < length trees) q.list.items is.below) (stands.below, tt)));
-      list = ap (named trees) d.list ∙ map-append (tree_at trees) q.list.items (formula ∷ []) ∙ ap (λ (ts : List Tree). ts ++ tree_at trees formula ∷ []) is.list ∙ whole;
-      lane = subst (λ (ts : List Tree). IsLane trees ts r.lane) whole d.lane;
+      list = inr (away-from-last old p entries e limit k queries q m h, longer ∙ whole);
+      lane = subst (λ (ts : List Tree). IsLane trees ts r.lane) (sym longer) d.lane;
       variables = d.variables ∙ is.variables;
     }
 
@@ -181,8 +197,7 @@ told-whole old new p entries e limit queries q r m level winner region formula m
     let k = level - 2 in
     let asking = asking-of old p entries e limit queries q m level winner region may is at same in
     let stands_e = stands-negated old new e level winner region formula is stands in
-    let lane = (query-stays old new p entries limit k q grows (may.are k q at)).lane in
-    let d = denied (query_list p entries (quantifier_of q.winner) (k + 2)) lane in (
+    let d = denied (query_list p entries (quantifier_of q.winner) (k + 2)) (asking-lane old new p entries e limit k queries q m asking grows) in (
       told-queries old new p entries e limit k queries q r formula m asking grows stands_e d,
       told-tallies new (query_list p entries (quantifier_of q.winner) (k + 2)) queries k q r formula at d,
     )

@@ -8,7 +8,7 @@ use Rattle.qv_words.specs.GameLaws.{IsProblem}
 use Rattle.qv_store.specs.Walks.{named}
 use Rattle.qv_entries.specs.Rows.{IsRowIn, entries_in}
 use Rattle.qv_meter.specs.Played.{IsPlayed, IsSettled, IsUndecided}
-use Rattle.qv_meter.specs.Queries.{query_list}
+use Rattle.qv_meter.specs.Queries.{StandsForQuery}
 use Rattle.qv_meter.specs.Records.{Metering}
 use Rattle.qv_game_entry_laws.specs.PointLaws.{places_from}
 use Rattle.qv_game_lanes.specs.Lanes.{IsLane, variables_of}
@@ -22,20 +22,20 @@ use Rattle.qv_game_state.specs.Spots.{all_sorts, IsSpot}
 abbrev pub tally_of : Query → Tally
 tally_of q = record { winner = quantifier_of q.winner; count = q.lane.learnt }
 
--- the lane of the level behind block i has the query list of the entries, about the player who
--- doesn't own the block
+-- the lane of the level behind block i has what stands for the query list of the entries, about the
+-- player who doesn't own the block
 pub record IsQueryAt (trees : List Tree) (p : Problem) (entries : List Entry) (limit i : ℕ) (q : Query) : Type 0 where
   pub opponent : (b : Block) → slice_get (blocks_of p.prefix) i ≡ Some b → quantifier_of q.winner ≡ other b.owner
   pub below : All (λ n. n < length trees) q.list.items
-  pub list : named trees q.list.items ≡ query_list p entries (quantifier_of q.winner) (i + 2)
-  pub lane : IsLane trees (query_list p entries (quantifier_of q.winner) (i + 2)) q.lane
+  pub list : StandsForQuery p entries (quantifier_of q.winner) (i + 2) (named trees q.list.items)
+  pub lane : IsLane trees (named trees q.list.items) q.lane
   pub variables : variables_of q.lane ≡ limit
 
 abbrev pub AreQueries : List Tree → Problem → List Entry → ℕ → List Query → Type 0
 AreQueries trees p entries limit queries = (i : ℕ) (q : Query) → slice_get queries i ≡ Some q → IsQueryAt trees p entries limit i q
 
 -- a game of this problem, beside a store and a meter: what is played is charged, and each lane has
--- its query list
+-- what stands for its query list
 pub record IsGame (trees : List Tree) (p : Problem) (limit : ℕ) (g : Game) (m : Metering) : Type 0 where
   pub problem : IsProblem p
   pub spans : map span_of g.spans.items ≡ spans_from 0 (blocks_of p.prefix)

@@ -63,7 +63,7 @@ impl Game {
         ensures entries { self.new.entries ≡ self.old.entries }
         ensures answer { IfOk result (λ answer. (p : PlainProblem) (limit : ℕ) →
             IsPlaying store.now p limit self.old level point.now meter.old →
-            IsAnswered p (entries_in store.now self.old.entries) level point.now answer) }
+            IsAnswered store.now p self.new level point.now answer) }
         ensures counts { SameButCounts meter.old meter.new }
         ensures spent { IsSpentWhere result meter.new }
     {

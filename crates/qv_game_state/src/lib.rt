@@ -6,8 +6,8 @@
 //! owns the block of the level (or the game ends there), so a lane's regions are those of owned
 //! entries, and the regions of forced ones are only looked at where a point comes down. An owned
 //! entry's negation is put behind its lane's formulas as soon as the entry is charged: so a lane's
-//! formulas are its query list of the entries at each moment, and the additions of its core are its
-//! tally.
+//! formulas are its query list of the entries at each moment, behind the last block rewritten once
+//! before play, and the additions of its core are its tally.
 #![tactic(auto)]
 
 mod game;

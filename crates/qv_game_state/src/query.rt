@@ -8,7 +8,6 @@ ghost use Rattle.qv_words.specs.Linked.{Entry};
 ghost use Rattle.qv_words.specs.Problem.{Problem as PlainProblem};
 ghost use Rattle.qv_words.specs.Skolem.{IsTermOf};
 ghost use Rattle.qv_store.specs.Nodes.{tree_at};
-ghost use Rattle.qv_meter.specs.Queries.{query_list};
 ghost use Rattle.qv_meter.specs.Views.{lane_of};
 ghost use Rattle.qv_game_lanes.specs.Lanes.{IsLane};
 ghost use Rattle.qv_game_state.specs.Asking.{IsAnswerAt, IsAsked, IsDenied, MayDeny};
@@ -25,8 +24,8 @@ use qv_store::{Id, Quant, Store};
 use qv_words::Word;
 use std::alloc::Global;
 
-/// The regions of a player at a level: the formulas that are true outside all of them, by number,
-/// and the lane that has them.
+/// The regions of a player at a level: formulas that are all true exactly outside all of them, by
+/// number, and the lane that has them.
 #[derive(Drop)]
 pub struct Query {
     pub winner: Quant,
@@ -60,7 +59,7 @@ impl Query {
         ensures answer { IfOk result (λ answer. (p : PlainProblem) (entries : List Entry)
             (limit : ℕ) (tallies : List Tally) →
             IsAsked store.now p entries limit tallies self.old places.now point.now level
-            meter.old → IsAnswerAt p entries self.old.winner level point.now answer) }
+            meter.old → IsAnswerAt store.now p self.old level point.now answer) }
         ensures counts { SameButCounts meter.old meter.new }
         ensures spent { IsSpentWhere result meter.new }
     {

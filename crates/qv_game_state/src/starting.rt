@@ -1,10 +1,10 @@
 //! The start of a game.
 
 ghost use Rattle.std.specs.Prelude.{◌≡◌, ◌≢◌, ◌+◌, ◌<◌, ◌≤◌, ◌^◌, [], All, IfOk, IsSomeAnd, List, length};
-ghost use Rattle.std.specs.Prelude.{map, ℕ};
+ghost use Rattle.std.specs.Prelude.{map, OnOk, ℕ};
 ghost use Rattle.qv_words.specs.Sort.{IsLawful};
 ghost use Rattle.qv_words.specs.Tree.{Tree, Variable};
-ghost use Rattle.qv_store.specs.Problems.{problem_in, IsPosedIn};
+ghost use Rattle.qv_store.specs.Problems.{problem_in, quantifier_of, IsPosedIn};
 ghost use Rattle.qv_store.specs.Stores.{AreShared, Grows, StandsAt};
 ghost use Rattle.qv_store.specs.Walks.{named};
 ghost use Rattle.qv_game_entry_laws.specs.PointLaws.{places_from};
@@ -12,7 +12,7 @@ ghost use Rattle.qv_game_state.specs.Counts.{SameButCounts};
 ghost use Rattle.qv_game_state.specs.Faults.{IsSpentWhere};
 ghost use Rattle.qv_game_state.specs.Playing.{IsGame};
 ghost use Rattle.qv_game_state.specs.Spans.{span_of};
-ghost use Rattle.qv_game_state.specs.Starting.{AreNew, IsNew, IsUncharged};
+ghost use Rattle.qv_game_state.specs.Starting.{AreNew, IsLastFormula, IsNew, IsUncharged};
 
 use crate::game::Game;
 use crate::players::opponent;
@@ -22,6 +22,7 @@ use crate::spans::{Span, spans_of};
 use qv_entries::Entries;
 use qv_game_lanes::Lane;
 use qv_meter::{Meter, PlayFault};
+use qv_rewrite_lists::rewrite;
 use qv_store::{Id, NoMemory, Node, Place, Problem, Quant, Store};
 use qv_words::Sort;
 use std::alloc::{AllocError, Global};
@@ -49,7 +50,7 @@ pub fn start(
     let spans = spans_of(alloc, &problem.prefix)?;
     let mut queries = new_queries(alloc, &spans, variable_limit(meter))?;
     let behind = spans.len() - 1;
-    let last = put_last(alloc, store, problem, spans[behind].owner)?;
+    let last = put_rewritten(alloc, store, problem, spans[behind].owner)?;
     queries[behind].deny(store, last, meter)?;
     Ok(Game {
         spans,
@@ -57,6 +58,28 @@ pub fn start(
         entries: Entries::new(alloc),
         queries,
     })
+}
+
+// A player's region behind the last block, behind the passes that pay.
+fn put_rewritten(
+    alloc: Global,
+    store: &mut Store,
+    problem: &Problem,
+    owner: Quant,
+) -> Result<Id, NoMemory>
+    requires { IsPosedIn store.old problem.now }
+    ensures last { IfOk result (IsLastFormula store.new (problem_in store.old problem.now)
+        (quantifier_of owner)) }
+    ensures grows { Grows store.old store.new }
+    ensures shared { OnOk result (AreShared store.new) }
+{
+    let last = put_last(alloc, store, problem, owner)?;
+    let mut list = Vec::new(alloc);
+    list.push(last)?;
+    let rewritten = rewrite(alloc, store, list)?;
+    // What every store keeps.
+    let _few = store.len();
+    Ok(rewritten.list[0])
 }
 
 // The greatest variable that the newest record allows.

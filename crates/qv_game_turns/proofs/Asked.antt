@@ -4,7 +4,6 @@ use Rattle.qv_words.specs.declared.word.Word.{Word}
 use Rattle.qv_words.specs.Tree.{Tree}
 use Rattle.qv_words.specs.Problem.{Problem}
 use Rattle.qv_store.specs.declared.problem.Problem.{Problem as Posed}
-use Rattle.qv_entries.specs.Rows.{Row, entries_in}
 use Rattle.qv_meter.specs.Records.{Metering}
 use Rattle.qv_game_lanes.specs.declared.asking.Answer.{Answer}
 use Rattle.qv_game_state.specs.declared.game.Game.{Game}
@@ -21,9 +20,8 @@ asked-turn trees posed p limit g next spot point m after same h asked = record {
       (asked (subst (λ (ws : List Word). IsPlaying trees p limit g spot.level ws m) (sym same) h.playing));
 }
 
--- its answer, at the point and the entries that there are now
-pub answered-now : (trees : List Tree) (posed : Posed) (p : Problem) (limit : ℕ) (g next : Game) (spot : Spot) (point : List Word) (m : Metering) (answer : Answer) → point ≡ spot.point.items → next.entries ≡ g.entries → MayTurn trees posed p limit g spot m → (IsPlaying trees p limit g spot.level point m → IsAnswered p (entries_in trees g.entries) spot.level point answer) → IsAnswered p (entries_in trees next.entries) spot.level spot.point.items answer
-answered-now trees posed p limit g next spot point m answer same entries h answered =
+-- its answer, at the point that there is now
+pub answered-now : (trees : List Tree) (posed : Posed) (p : Problem) (limit : ℕ) (g next : Game) (spot : Spot) (point : List Word) (m : Metering) (answer : Answer) → point ≡ spot.point.items → MayTurn trees posed p limit g spot m → (IsPlaying trees p limit g spot.level point m → IsAnswered trees p next spot.level point answer) → IsAnswered trees p next spot.level spot.point.items answer
+answered-now trees posed p limit g next spot point m answer same h answered =
     let given = answered (subst (λ (ws : List Word). IsPlaying trees p limit g spot.level ws m) (sym same) h.playing) in
-    subst (λ (rows : List Row). IsAnswered p (entries_in trees rows) spot.level spot.point.items answer) (sym entries)
-    (subst (λ (ws : List Word). IsAnswered p (entries_in trees g.entries) spot.level ws answer) same given)
+    subst (λ (ws : List Word). IsAnswered trees p next spot.level ws answer) same given

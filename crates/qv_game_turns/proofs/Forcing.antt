@@ -24,7 +24,7 @@ use Rattle.qv_game_entry_laws.specs.PointLaws.{AssumeAll, IsRunOf, places_from}
 use Rattle.qv_game_entry_laws.proofs.Assuming.{named-runs_assume_all}
 use Rattle.qv_store.specs.Walks.{named}
 use Rattle.qv_meter.specs.Played.{IsPlayed, IsSettled, IsUndecided}
-use Rattle.qv_meter.specs.Queries.{all_links, block_count, query_list}
+use Rattle.qv_meter.specs.Queries.{StandsForQuery, all_links, block_count}
 use Rattle.qv_game_play_laws.specs.PlayLaws.{MayMove, sorts_below}
 use Rattle.qv_game_play_laws.proofs.Moves.{forced-is_played}
 use Rattle.qv_game_play_laws.proofs.Queries.{queries-are_over_places}
@@ -84,21 +84,23 @@ pub record IsFailing (trees : List Tree) (p : Problem) (entries : List Entry) (l
   pub outside : IsOutside p entries (values_of point) level
   pub at : IsLevel p level s b
   pub winner_is : winner ≡ other b.owner
-  pub none : LeavesNone (query_list p entries winner (level + 1)) (sorts_below p (level + 1)) point (lits_of core)
-  pub lane_is : IsLane trees (query_list p entries winner (level + 1)) lane
+  pub formulas : List Tree
+  pub stands : StandsForQuery p entries winner (level + 1) formulas
+  pub none : LeavesNone formulas (sorts_below p (level + 1)) point (lits_of core)
+  pub lane_is : IsLane trees formulas lane
   pub places : named trees ids ≡ places_from 0 (sorts_below p (level + 1))
   pub runs_are : map run_of runs ≡ named_runs (named_by core) (known_of trees lane) 0 (named trees ids) (values_of point)
 
-pub runs-assume : (trees : List Tree) (p : Problem) (entries : List Entry) (level : ℕ) (s : Span) (b : Block) (winner : Quantifier) (point : List Word) (lane : Lane) (ids : List ℕ) (core : List Literal) (runs : List Kept) → IsFailing trees p entries level s b winner point lane ids core runs → AssumeAll (query_list p entries winner (level + 1)) (sorts_below p (level + 1)) (values_of point) (map run_of runs) (lits_of core)
+pub runs-assume : (trees : List Tree) (p : Problem) (entries : List Entry) (level : ℕ) (s : Span) (b : Block) (winner : Quantifier) (point : List Word) (lane : Lane) (ids : List ℕ) (core : List Literal) (runs : List Kept) → (h : IsFailing trees p entries level s b winner point lane ids core runs) → AssumeAll h.formulas (sorts_below p (level + 1)) (values_of point) (map run_of runs) (lits_of core)
 runs-assume trees p entries level s b winner point lane ids core runs h =
-    let formulas = query_list p entries winner (level + 1) in
+    let formulas = h.formulas in
     let sorts = sorts_below p (level + 1) in
     let vs = values_of point in
     let known : known_of trees lane ≡ blasted formulas = ap (λ (x : Blasting). x.known) h.lane_is.blaster.stands in
     let are : map run_of runs ≡ named_runs (named_by core) (blasted formulas) 0 (places_from 0 sorts) vs =
     h.runs_are ∙ ap (λ (k : List Blasted). named_runs (named_by core) k 0 (named trees ids) vs) known
     ∙ ap (λ (ts : List Tree). named_runs (named_by core) (blasted formulas) 0 ts vs) h.places in
-    let terms = (queries-are_over_places p entries winner (level + 1) h.problem h.played).0 in
+    let terms = (queries-are_over_places p entries winner (level + 1) formulas h.problem h.played h.stands).0 in
     subst (λ (rs : List Run). AssumeAll formulas sorts vs rs (lits_of core)) (sym are)
     (named-runs_assume_all formulas sorts vs (named_by core) (lits_of core) terms h.none.each (core-named core))
 
@@ -153,7 +155,7 @@ forced-played trees p entries level s b winner point lane ids core runs region l
       point_of = point-typed p level point h.sorts;
       outside = subst (λ (us : List ℕ). All (λ f. IsTrueAt us f.region → ⊥) (entries_of level winner entries)) (take_all n vs long) (h.outside winner);
     } in
-    let forced = forced-is_played p entries level winner b vs (map run_of runs) (lits_of core) move h.settled h.at.numbered (other-not winner b.owner h.winner_is) all h.none.no_model in
+    let forced = forced-is_played p entries level winner b vs (map run_of runs) (lits_of core) h.formulas move h.settled h.at.numbered (other-not winner b.owner h.winner_is) h.stands all h.none.no_model in
     let zip = zip-sorts point (take (length point) p.prefix) (h.sorts ∙ ap (λ (k : ℕ). map (λ (place : Place). place.sort) (take k p.prefix)) (sym count)) in
     let same : map (fixing_at point) runs ≡ map (equation_of p vs) (map run_of runs) = fixing-is_of_entries p point runs zip (runs-at trees p entries level s b winner point lane ids core runs h) in
     subst (λ (t : Tree). IsPlayed p (entries ++ record { level = level; winner = winner; region = t; point = vs; terms = []; links = links } ∷ [])) (sym (is ∙ ap conjunction same))

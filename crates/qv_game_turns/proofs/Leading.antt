@@ -7,8 +7,10 @@ use Rattle.qv_words.specs.Word.{sorts_of, values_of}
 use Rattle.qv_words.specs.Tree.{Tree}
 use Rattle.qv_words.specs.Problem.{Problem, Quantifier}
 use Rattle.qv_words.specs.Linked.{Block}
+use Rattle.qv_words.proofs.Elements.{found-at}
 use Rattle.qv_store.specs.declared.problem.Problem.{Problem as Posed}
 use Rattle.qv_store.specs.Problems.{quantifier_of}
+use Rattle.qv_store.specs.Walks.{named}
 use Rattle.qv_entries.specs.Rows.{entries_in, regions_of}
 use Rattle.qv_entries.specs.Holding.{HoldsAt, IsAskable}
 use Rattle.qv_meter.specs.Records.{Metering}
@@ -19,7 +21,7 @@ use Rattle.qv_game_state.specs.Playing.{IsPlaying}
 use Rattle.qv_game_turns.specs.Turns.{AreLeading, MayTurn, MayWin}
 use Rattle.qv_game_turns.proofs.Moving.{force-links}
 use Rattle.qv_game_turns.proofs.Turned.{IsLeading, lead-askable, lead-held, lead-last, lead-on, leading-sorts}
-use Rattle.qv_game_state.proofs.Asking.{level-span}
+use Rattle.qv_game_state.proofs.Asking.{level-span, query-within, stands-above}
 
 -- values that a block's owner was answered at a spot, and the point that they make longer
 pub record IsAnsweredAt (trees : List Tree) (posed : Posed) (p : Problem) (limit : ℕ) (g : Game) (spot : Spot) (m : Metering) (s : Kept) (values longer : List Word) : Type 0 where
@@ -31,8 +33,19 @@ pub record IsAnsweredAt (trees : List Tree) (posed : Posed) (p : Problem) (limit
 pub owner-leads : (trees : List Tree) (posed : Posed) (p : Problem) (limit : ℕ) (g : Game) (spot : Spot) (m : Metering) (s : Kept) (values longer : List Word) → IsAnsweredAt trees posed p limit g spot m s values longer → (b : Block) × (quantifier_of s.owner ≡ b.owner) × IsLeading p (entries_in trees g.entries) spot.level b spot.point.items values
 owner-leads trees posed p limit g spot m s values longer h =
     let at = h.may.playing.spot in
-    let f = level-span trees p limit g spot.level m s h.may.playing.game at.low h.span in
-    (f.0, f.1.owner, record { spot = at; at = f.1.at; makes = h.leading f.0 f.1.at })
+    let game = h.may.playing.game in
+    let f = level-span trees p limit g spot.level m s game at.low h.span in
+    let q = found-at g.queries.items (spot.level - 1) (query-within trees p limit g spot.level m game at.low at.high) in
+    let leading : IsLeading p (entries_in trees g.entries) spot.level f.0 spot.point.items values = record {
+      problem = game.problem;
+      played = game.played;
+      spot = at;
+      at = f.1.at;
+      formulas = named trees q.0.list.items;
+      stands = stands-above trees p (entries_in trees g.entries) limit spot.level q.0 f.0 at.low f.1.at (game.queries (spot.level - 1) q.0 q.1);
+      makes = h.leading q.0 q.1;
+    } in
+    (f.0, f.1.owner, leading)
 
 pub leads-last : (trees : List Tree) (posed : Posed) (p : Problem) (limit : ℕ) (g : Game) (spot : Spot) (m : Metering) (s : Kept) (values longer : List Word) → IsAnsweredAt trees posed p limit g spot m s values longer → spot.level ≡ length g.spans.items → MayWin trees posed p limit g spot.level None longer m
 leads-last trees posed p limit g spot m s values longer h last =

@@ -19,14 +19,11 @@ use Rattle.qv_store.specs.Walks.{named}
 use Rattle.qv_store.specs.declared.problem.Problem.{Problem as Posed}
 use Rattle.qv_entries.specs.Rows.{Row, entries_in, entry_in}
 use Rattle.qv_cnf.specs.Literal.{Literal}
-use Rattle.qv_circuits.specs.Adding.{lits_of}
 use Rattle.qv_meter.specs.Played.{FollowsForced, IsPlayed, IsSettled, IsUndecided}
-use Rattle.qv_meter.specs.Queries.{all_links, block_count, query_list}
+use Rattle.qv_meter.specs.Queries.{StandsForQuery, all_links, block_count}
 use Rattle.qv_meter.specs.Records.{Metering}
-use Rattle.qv_game_play_laws.specs.PlayLaws.{sorts_below}
 use Rattle.qv_game_entry_laws.specs.Fixings.{named_runs}
-use Rattle.qv_game_lanes.specs.Asking.{LeavesNone}
-use Rattle.qv_game_lanes.specs.Lanes.{IsLane, known_of}
+use Rattle.qv_game_lanes.specs.Lanes.{known_of}
 use Rattle.qv_game_regions.specs.declared.run.Run.{Run}
 use Rattle.qv_game_regions.specs.Runs.{fixing_at, run_of}
 use Rattle.qv_game_state.specs.declared.game.Game.{Game}
@@ -146,8 +143,10 @@ force-failing trees posed p limit g level point core m s q runs h span at runs_a
         outside = h.outside;
         at = f.1;
         winner_is = who;
-        none = subst (λ (w : Quantifier). LeavesNone (query_list p entries w (level + 1)) (sorts_below p (level + 1)) point (lits_of core)) (sym who) (h.none b f.1.at);
-        lane_is = subst (λ (k : ℕ). IsLane trees (query_list p entries (quantifier_of q.winner) k) q.lane) up is.lane;
+        formulas = named trees q.list.items;
+        stands = subst (λ (k : ℕ). StandsForQuery p entries (quantifier_of q.winner) k (named trees q.list.items)) up is.list;
+        none = h.none q at;
+        lane_is = is.lane;
         places = ap (λ (n : ℕ). named trees (take n g.places.items)) f.1.end ∙ front-named trees p (level + 1) g.places.items h.game.places;
         runs_are = runs_are;
       },

@@ -23,9 +23,10 @@ use Rattle.qv_store.specs.declared.problem.Problem.{Problem as Posed}
 use Rattle.qv_cnf.specs.Literal.{Literal}
 use Rattle.qv_entries.specs.Rows.{entries_in}
 use Rattle.qv_meter.specs.Played.{IsPlayed, IsSettled, IsUndecided}
-use Rattle.qv_meter.specs.Queries.{block_count, query_list}
+use Rattle.qv_meter.specs.Queries.{StandsForQuery, block_count, query_list}
 use Rattle.qv_meter.specs.Records.{Metering}
 use Rattle.qv_meter.proofs.Following.{blocks-alternate}
+use Rattle.qv_meter.proofs.Standing.{stands-inner}
 use Rattle.qv_game_play_laws.specs.PlayLaws.{MayMove, outside_all, sorts_below}
 use Rattle.qv_game_play_laws.proofs.Complement.{complement-is_played}
 use Rattle.qv_game_outside.specs.Outside.{LeavesNone}
@@ -35,7 +36,8 @@ use Rattle.qv_game_state.specs.Playing.{IsGame, IsQueryAt}
 use Rattle.qv_game_state.specs.Spots.{BlockAt, IsOutside}
 use Rattle.qv_game_lanes.specs.Asking.{LeavesNone as LeavesNoValues}
 use Rattle.qv_circuits.specs.Adding.{lits_of}
-use Rattle.qv_game_state.proofs.Keeping.{entries-stay, game-stays, posed-in_stays, posed-stays}
+use Rattle.qv_game_state.proofs.Asking.{stands-above}
+use Rattle.qv_game_state.proofs.Keeping.{entries-stay, game-stays, named-stays, posed-in_stays, posed-stays}
 use Rattle.qv_game_state.proofs.Levels.{point-count, point-typed}
 use Rattle.qv_game_turns.specs.Moves.{IsForcedRegion, IsOutsideRegion, MayForce, linked_to_all}
 use Rattle.qv_game_turns.proofs.Forcing.{other-not}
@@ -69,20 +71,11 @@ denials-are trees p limit g level m before b h low high at query =
     let who : quantifier_of before.winner ≡ b.owner = is.opponent front.0 front.1 ∙ apart-other front.0.owner b.owner alternate in
     let up : level - 2 + 2 ≡ level = omega (arith, low) in
     let inner : (level == block_count p + 1) ≡ false = ne_eqb level (block_count p + 1) (λ e. omega (arith, high, e)) in
-    is.list
+    let away : level - 2 + 2 ≡ block_count p + 1 → ⊥ = λ e. omega (arith, low, high, e) in
+    stands-inner p entries (quantifier_of before.winner) (level - 2 + 2) (named trees before.list.items) away is.list
     ∙ ap (λ (k : ℕ). query_list p entries (quantifier_of before.winner) k) up
     ∙ ap (λ (w : Quantifier). query_list p entries w level) who
     ∙ rw inner refl
-
--- what is asked at the level
-asked-are : (trees : List Tree) (p : Problem) (limit : ℕ) (g : Game) (level : ℕ) (m : Metering) (query : Query) (b : Block) → IsGame trees p limit g m → 1 ≤ level → BlockAt p level b → slice_get g.queries.items (level - 1) ≡ Some query → named trees query.list.items ≡ query_list p (entries_in trees g.entries) (other b.owner) (level + 1)
-asked-are trees p limit g level m query b h low at there =
-    let entries = entries_in trees g.entries in
-    let is : IsQueryAt trees p entries limit (level - 1) query = h.queries (level - 1) query there in
-    let up : level - 1 + 2 ≡ level + 1 = omega (arith, low) in
-    is.list
-    ∙ ap (λ (k : ℕ). query_list p entries (quantifier_of query.winner) k) up
-    ∙ ap (λ (w : Quantifier). query_list p entries w (level + 1)) (is.opponent b at)
 
 -- of no entries there is no denial
 some-entries : (es : List Entry) → map (λ (f : Entry). negation f.region) es ≢ [] → es ≢ []
@@ -110,16 +103,16 @@ outside-forces trees new posed p limit g level point core m id b h grows is bloc
       outside = away w;
     } in
     let denials = denials-are trees p limit g level m is.before b h.game is.low h.high block is.before_is in
-    let asked = asked-are trees p limit g level m is.query b h.game h.low block is.query_is in
+    let asked = named trees is.query.list.items in
+    let stands : StandsForQuery p entries w (level + 1) asked = stands-above trees p entries limit level is.query b h.low block (h.game.queries (level - 1) is.query is.query_is) in
     let owner : b.owner ≡ other w = sym (twice-other b.owner) in
     let denied : named trees is.before.list.items ≡ map (λ (f : Entry). negation f.region) (entries_of level (other w) entries) =
     denials ∙ ap (λ (q : Quantifier). map (λ (f : Entry). negation f.region) (entries_of level q entries)) owner in
     let region = ap conjunction denied in
-    let no_model : (v : ℕ → Bool) → clauses_value v (cnf (outside_all entries (other w) level ∷ query_list p entries w (level + 1))) ≡ true → ⊥ =
-    λ v e. none.no_model v (subst (λ (ts : List Tree). clauses_value v (cnf (conjunction (named trees is.before.list.items) ∷ ts)) ≡ true) (sym asked)
-    (subst (λ (t : Tree). clauses_value v (cnf (t ∷ query_list p entries w (level + 1))) ≡ true) (sym region) e)) in
+    let no_model : (v : ℕ → Bool) → clauses_value v (cnf (outside_all entries (other w) level ∷ asked)) ≡ true → ⊥ =
+    λ v e. none.no_model v (subst (λ (t : Tree). clauses_value v (cnf (t ∷ asked)) ≡ true) (sym region) e) in
     let some = some-entries (entries_of level (other w) entries) (subst (λ (ts : List Tree). ts ≢ []) denied none.some) in
-    let played = complement-is_played p entries level w b vs move h.settled some (away (other w)) (numbered p level b h.low block) (other-not w b.owner refl) no_model in
+    let played = complement-is_played p entries level w b vs asked move h.settled some (away (other w)) (numbered p level b h.low block) (other-not w b.owner refl) stands no_model in
     let here : IsPlayed p (entries_in new g.entries ++ linked_to_all p (entries_in new g.entries) level w vs (outside_all entries (other w) level) ∷ []) =
     subst (λ (es : List Entry). IsPlayed p (es ++ linked_to_all p es level w vs (outside_all entries (other w) level) ∷ [])) (sym (entries-stay trees new g.entries grows h.game.rows)) played in
     record {
@@ -141,7 +134,7 @@ force-stays old new posed p limit g level point core m grows h =
       high = h.high;
       sorts = h.sorts;
       outside = subst (λ (es : List Entry). IsOutside p es (values_of point) level) same h.outside;
-      none = subst (λ (es : List Entry). (b : Block) → BlockAt p level b → LeavesNoValues (query_list p es (other b.owner) (level + 1)) (sorts_below p (level + 1)) point (lits_of core)) same h.none;
+      none = λ q at. subst (λ (ts : List Tree). LeavesNoValues ts (sorts_below p (level + 1)) point (lits_of core)) (sym (named-stays old new q.list.items grows (h.game.queries (level - 1) q at).below)) (h.none q at);
     }
 
 -- the formulas of a query may be asked
@@ -151,7 +144,7 @@ query-below trees p limit g m i q ids h at same = subst (λ (ns : List ℕ). All
 pub query-terms : (trees : List Tree) (p : Problem) (limit : ℕ) (g : Game) (m : Metering) (i : ℕ) (q : Query) (ids : List ℕ) → IsGame trees p limit g m → slice_get g.queries.items i ≡ Some q → ids ≡ q.list.items → All (λ t. IsTermOf t BoolSort) (named trees ids)
 query-terms trees p limit g m i q ids h at same =
     let is = h.queries i q at in
-    subst (λ (ts : List Tree). All (λ t. IsTermOf t BoolSort) ts) (sym (ap (named trees) same ∙ is.list)) is.lane.terms
+    subst (λ (ns : List ℕ). All (λ t. IsTermOf t BoolSort) (named trees ns)) (sym same) is.lane.terms
 
 pub two-before : (level : ℕ) → level - 1 - 1 ≡ level - 2
 two-before level = omega arith

@@ -12,6 +12,7 @@ use Rattle.qv_words.specs.Tree.{Tree}
 use Rattle.qv_words.specs.Choice.{IsTrueAt}
 use Rattle.qv_words.specs.Problem.{Problem, Quantifier, Existential, Universal, other}
 use Rattle.qv_words.specs.Linked.{Block, Entry, HoldsFirst, IsRegion, block_numbered, blocks_of, entries_of, is_of, last_region, places_below, same_quantifier}
+use Rattle.qv_words.specs.GameLaws.{IsProblem}
 use Rattle.qv_words.proofs.Elements.{found-at, get-map, of-some, pushed-last, some-and}
 use Rattle.qv_words.specs.declared.sort.Sort.TheVariants.{Bool as BoolSort}
 use Rattle.qv_game_laws.proofs.Points.{below-is}
@@ -28,7 +29,7 @@ use Rattle.qv_store.specs.declared.problem.Quant.{Quant}
 use Rattle.qv_entries.specs.Rows.{Row, IsRowIn, entries_in, entry_in, is_row_of, regions_of}
 use Rattle.qv_entries.specs.Holding.{HoldsAt, IsAskable}
 use Rattle.qv_meter.specs.Played.{FollowsForced, IsPlayed, IsSettled, IsUndecided, WasForced}
-use Rattle.qv_meter.specs.Queries.{block_count, query_list}
+use Rattle.qv_meter.specs.Queries.{StandsForQuery, block_count}
 use Rattle.qv_meter.specs.Records.{Metering}
 use Rattle.qv_game_play_laws.specs.PlayLaws.{sorts_below}
 use Rattle.qv_game_play_laws.proofs.Queries.{answers-lie_outside}
@@ -49,7 +50,7 @@ use Rattle.qv_game_turns.proofs.Owning.{NextPlaces, later-term, later-words}
 use Rattle.qv_game_state.proofs.Blocks.{spans-count, same-self}
 use Rattle.qv_game_state.proofs.Entered.{with-row}
 use Rattle.qv_game_state.proofs.Entering.{outside-more, outside-with, undecided-with}
-use Rattle.qv_game_state.proofs.Levels.{level-of, longer-sorts, places-rise, point-count}
+use Rattle.qv_game_state.proofs.Levels.{level-of, longer-sorts, places-rise, point-count, point-typed}
 use Rattle.qv_game_state.proofs.Asking.{level-span, span-within}
 use Rattle.qv_game_turns.proofs.Spots.{next-spot, upper-spot}
 
@@ -123,23 +124,32 @@ own-or_other Existential Universal = inr refl
 own-or_other Universal Existential = inr refl
 own-or_other Universal Universal = inl refl
 
--- the values that a block's owner was answered
+-- the values that a block's owner was answered, by formulas that stand for the query list
 pub record IsLeading (p : Problem) (entries : List Entry) (level : ℕ) (b : Block) (point values : List Word) : Type 0 where
+  pub problem : IsProblem p
+  pub played : IsPlayed p entries
   pub spot : IsSpot p entries level point
   pub at : BlockAt p level b
-  pub makes : MakeTrue (query_list p entries (other b.owner) (level + 1)) (sorts_below p (level + 1)) point values
+  pub formulas : List Tree
+  pub stands : StandsForQuery p entries (other b.owner) (level + 1) formulas
+  pub makes : MakeTrue formulas (sorts_below p (level + 1)) point values
 
 pub leading-sorts : (p : Problem) (entries : List Entry) (level : ℕ) (b : Block) (point values : List Word) → IsLeading p entries level b point values → sorts_of (point ++ values) ≡ sorts_below p (level + 1)
 leading-sorts p entries level b point values h = longer-sorts p level b point values h.spot.low h.at h.spot.sorts h.makes.sorts_are
 
-leading-true : (p : Problem) (entries : List Entry) (level : ℕ) (b : Block) (point values : List Word) → IsLeading p entries level b point values → All (IsTrueAt (values_of (point ++ values))) (query_list p entries (other b.owner) (level + 1))
-leading-true p entries level b point values h =
-    subst (λ (vs : List ℕ). All (IsTrueAt vs) (query_list p entries (other b.owner) (level + 1))) (sym (map-append word_value point values)) h.makes.each
+-- so they lie outside
+leading-outside : (p : Problem) (entries : List Entry) (level : ℕ) (b : Block) (point values : List Word) → IsLeading p entries level b point values →
+    (level + 1 ≡ block_count p + 1 → IsTrueAt (values_of (point ++ values)) (last_region p (other (other b.owner))))
+    × ((level + 1 ≡ block_count p + 1 → ⊥) → All (λ f. IsTrueAt (values_of (point ++ values)) f.region → ⊥) (entries_of (level + 1) (other b.owner) entries))
+leading-outside p entries level b point values h =
+    answers-lie_outside p entries (other b.owner) (level + 1) (values_of (point ++ values)) h.formulas h.problem h.played
+    (point-typed p (level + 1) (point ++ values) (leading-sorts p entries level b point values h)) h.stands
+    (subst (λ (vs : List ℕ). All (IsTrueAt vs) h.formulas) (sym (map-append word_value point values)) h.makes.each)
 
 -- behind the last block its owner has won
 pub last-led : (p : Problem) (entries : List Entry) (level : ℕ) (b : Block) (point values : List Word) → IsLeading p entries level b point values → level ≡ block_count p → IsLed p entries level b.owner None (values_of (point ++ values))
 last-led p entries level b point values h last =
-    let won = (answers-lie_outside p entries (other b.owner) (level + 1) (values_of (point ++ values)) (leading-true p entries level b point values h)).0 (omega (arith, last)) in
+    let won = (leading-outside p entries level b point values h).0 (omega (arith, last)) in
     (last, subst (λ (q : Quantifier). IsTrueAt (values_of (point ++ values)) (last_region p q)) (other-twice b.owner) won)
 
 -- and so it has in an earlier region of its own
@@ -169,7 +179,7 @@ next-outside p entries level b point values h high none winner =
           (none-held (level + 1) b.owner vs entries (recursion_from_All (λ e. HoldsAt (level + 1) b.owner vs e → ⊥) entries none)))
       | inr away ↦
           subst (λ (q : Quantifier). All (λ f. IsTrueAt vs f.region → ⊥) (entries_of (level + 1) q entries)) (sym away)
-          ((answers-lie_outside p entries (other b.owner) (level + 1) vs (leading-true p entries level b point values h)).1 (λ e. omega (arith, e, high)))
+          ((leading-outside p entries level b point values h).1 (λ e. omega (arith, e, high)))
     ])
 
 -- the owner of a level's block has won

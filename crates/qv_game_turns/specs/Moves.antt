@@ -3,7 +3,7 @@ use Rattle.std.specs.Prelude.{◌≡◌, ℕ, ◌+◌, ◌-◌, ◌≤◌, ◌<�
 use Rattle.qv_words.specs.declared.word.Word.{Word}
 use Rattle.qv_words.specs.Word.{sorts_of, values_of}
 use Rattle.qv_words.specs.Tree.{Tree}
-use Rattle.qv_words.specs.Problem.{Problem, Quantifier, other}
+use Rattle.qv_words.specs.Problem.{Problem, Quantifier}
 use Rattle.qv_words.specs.Choice.{IsTrueAt}
 use Rattle.qv_words.specs.Linked.{Block, Entry, last_region}
 use Rattle.qv_store.specs.declared.problem.Problem.{Problem as Posed}
@@ -12,7 +12,7 @@ use Rattle.qv_store.specs.Nodes.{tree_at}
 use Rattle.qv_store.specs.Walks.{named}
 use Rattle.qv_entries.specs.Rows.{Row, entries_in}
 use Rattle.qv_meter.specs.Played.{FollowsForced, IsPlayed, IsSettled, IsUndecided}
-use Rattle.qv_meter.specs.Queries.{all_links, block_count, query_list}
+use Rattle.qv_meter.specs.Queries.{all_links, block_count}
 use Rattle.qv_meter.specs.Records.{Metering}
 use Rattle.qv_game_play_laws.specs.PlayLaws.{sorts_below}
 use Rattle.qv_game_lanes.specs.Asking.{LeavesNone as LeavesNoValues}
@@ -87,4 +87,4 @@ pub record MayForce (trees : List Tree) (posed : Posed) (p : Problem) (limit : �
   pub high : level ≤ block_count p
   pub sorts : sorts_of point ≡ sorts_below p level
   pub outside : IsOutside p (entries_in trees g.entries) (values_of point) level
-  pub none : (b : Block) → BlockAt p level b → LeavesNoValues (query_list p (entries_in trees g.entries) (other b.owner) (level + 1)) (sorts_below p (level + 1)) point (lits_of core)
+  pub none : (q : Query) → slice_get g.queries.items (level - 1) ≡ Some q → LeavesNoValues (named trees q.list.items) (sorts_below p (level + 1)) point (lits_of core)

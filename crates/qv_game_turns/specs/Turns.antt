@@ -2,24 +2,25 @@
 use Rattle.std.specs.Prelude.{◌≡◌, ◌⊎◌, ℕ, ◌+◌, ◌-◌, ◌≤◌, ◌<◌, Option, Some, List, slice_get, take}
 use Rattle.qv_words.specs.declared.word.Word.{Word}
 use Rattle.qv_words.specs.Tree.{Tree}
-use Rattle.qv_words.specs.Problem.{Problem, other}
-use Rattle.qv_words.specs.Linked.{Block, HoldsFirst}
+use Rattle.qv_words.specs.Problem.{Problem}
+use Rattle.qv_words.specs.Linked.{HoldsFirst}
 use Rattle.qv_store.specs.declared.problem.Problem.{Problem as Posed}
 use Rattle.qv_store.specs.declared.problem.Quant.{Quant}
 use Rattle.qv_store.specs.Problems.{problem_in, quantifier_of, IsPosedIn}
 use Rattle.qv_entries.specs.Rows.{entries_in}
-use Rattle.qv_meter.specs.Queries.{query_list}
 use Rattle.qv_meter.specs.Records.{Metering}
 use Rattle.qv_game_play_laws.specs.PlayLaws.{sorts_below}
 use Rattle.qv_cnf.specs.Literal.{Literal}
 use Rattle.qv_circuits.specs.Adding.{lits_of}
 use Rattle.qv_game_lanes.specs.Asking.{LeavesNone, MakeTrue}
+use Rattle.qv_store.specs.Walks.{named}
 use Rattle.qv_game_state.specs.declared.game.Game.{Game}
+use Rattle.qv_game_state.specs.declared.query.Query.{Query}
 use Rattle.qv_game_turns.specs.declared.turns.Spot.{Spot}
 use Rattle.qv_game_turns.specs.declared.turns.Turn.{Turn}
 use Rattle.qv_game_turns.specs.declared.turns.Turn.TheVariants.{Over, On}
 use Rattle.qv_game_state.specs.Spans.{Span}
-use Rattle.qv_game_state.specs.Spots.{BlockAt, IsOutside}
+use Rattle.qv_game_state.specs.Spots.{IsOutside}
 use Rattle.qv_game_turns.specs.Moves.{MayOwn}
 use Rattle.qv_words.specs.Word.{values_of}
 use Rattle.qv_game_state.specs.Playing.{IsGame, IsPlaying}
@@ -36,14 +37,15 @@ pub record MayWin (trees : List Tree) (posed : Posed) (p : Problem) (limit : ℕ
   pub own : MayOwn trees posed p limit g level link point m
   pub outside : (k : ℕ) → 1 ≤ k → k ≤ level - 1 → IsOutside p (entries_in trees g.entries) (values_of point) k
 
--- and values that lie in none of the other player's regions, or bits of the point that leave none
+-- and values that lie in none of the other player's regions, or bits of the point that leave none,
+-- by what the query behind the level's block has
 abbrev pub AreLeading : List Tree → Problem → Game → Spot → List Word → Type 0
 AreLeading trees p g spot values =
-    (b : Block) → BlockAt p spot.level b → MakeTrue (query_list p (entries_in trees g.entries) (other b.owner) (spot.level + 1)) (sorts_below p (spot.level + 1)) spot.point.items values
+    (q : Query) → slice_get g.queries.items (spot.level - 1) ≡ Some q → MakeTrue (named trees q.list.items) (sorts_below p (spot.level + 1)) spot.point.items values
 
 abbrev pub AreFailing : List Tree → Problem → Game → Spot → List Literal → Type 0
 AreFailing trees p g spot core =
-    (b : Block) → BlockAt p spot.level b → LeavesNone (query_list p (entries_in trees g.entries) (other b.owner) (spot.level + 1)) (sorts_below p (spot.level + 1)) spot.point.items (lits_of core)
+    (q : Query) → slice_get g.queries.items (spot.level - 1) ≡ Some q → LeavesNone (named trees q.list.items) (sorts_below p (spot.level + 1)) spot.point.items (lits_of core)
 
 -- after a turn: a player holds level 1, or play goes on from a point
 abbrev pub IsTurn : List Tree → Problem → ℕ → Game → Metering → Turn → Type 0

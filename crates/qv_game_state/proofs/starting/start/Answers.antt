@@ -50,7 +50,7 @@ index_mut-requires c =
     let posed = c.args.problem.now in
     let spans = c.in_ok-spans.spans in
     let queries = c.in_ok-queries.queries in
-    let trees = c.put_last.new.store in
+    let trees = c.put_rewritten.new.store in
     let limit = c.variable_limit.result in
     let count = c.len-behind.ensures in
     let some = last-index posed spans.items c.len-behind.result (are posed c.deref-2.result.now spans.items c.deref-2.ensures.value c.in_ok-spans.ensures) c.requires.some (count ∙ spans.ok.0) in
@@ -66,7 +66,7 @@ deny-requires-clause-formula c =
     let queries = c.in_ok-queries.queries.items in
     let old = c.args.store.now in
     let mid = c.put_places.new.store in
-    let trees = c.put_last.new.store in
+    let trees = c.put_rewritten.new.store in
     let limit = c.variable_limit.result in
     let n = c.len-behind.result in
     let s = c.index.result.now in
@@ -81,7 +81,7 @@ deny-requires-clause-formula c =
       count = c.len-behind.ensures ∙ spans.ok.0;
       span = c.index.ensures;
       query = c.index_mut.ensures.value;
-      stands = c.in_ok-last.ensures.id;
+      formula_is = c.in_ok-last.ensures.last;
     } in
     opened-formula old mid trees posed limit n spans.items queries s q formula opened
 
@@ -92,7 +92,7 @@ deny-requires-clause-may c =
     let queries = c.in_ok-queries.queries.items in
     let old = c.args.store.now in
     let mid = c.put_places.new.store in
-    let trees = c.put_last.new.store in
+    let trees = c.put_rewritten.new.store in
     let limit = c.variable_limit.result in
     let n = c.len-behind.result in
     let s = c.index.result.now in
@@ -109,7 +109,7 @@ deny-requires-clause-may c =
       count = c.len-behind.ensures ∙ spans.ok.0;
       span = c.index.ensures;
       query = c.index_mut.ensures.value;
-      stands = c.in_ok-last.ensures.id;
+      formula_is = c.in_ok-last.ensures.last;
     } in
     let charged = opened-charged old mid trees posed limit n spans.items queries s q formula m opened c.requires.«record» c.newest-record.ensures.metering c.variable_limit.ensures.limit in (
       p,
@@ -129,7 +129,7 @@ returns-clause-game c =
     let places = c.in_ok-places.places.items in
     let old = c.args.store.now in
     let mid = c.put_places.new.store in
-    let trees = c.put_last.new.store in
+    let trees = c.put_rewritten.new.store in
     let limit = c.variable_limit.result in
     let n = c.len-behind.result in
     let s = c.index.result.now in
@@ -147,7 +147,7 @@ returns-clause-game c =
       count = c.len-behind.ensures ∙ spans.ok.0;
       span = c.index.ensures;
       query = c.index_mut.ensures.value;
-      stands = c.in_ok-last.ensures.id;
+      formula_is = c.in_ok-last.ensures.last;
     } in
     let charged = opened-charged old mid trees posed limit n spans.items queries s q formula m opened c.requires.«record» c.newest-record.ensures.metering c.variable_limit.ensures.limit in
     let begun = opened-begun old mid trees posed limit n spans.items queries s q formula opened in
@@ -157,16 +157,16 @@ returns-clause-game c =
       limit,
       subst (IsGame trees p limit _) (sym c.in_ok-deny.ensures.meter)
           (begun-game trees p limit _ queries (n - 1) q r (span_of s) formula m c.requires.posed.problem begun denied charged opened.are
-          (below-stays mid trees places c.put_last.ensures.grows c.in_ok-places.ensures.below)
-          (named-stays mid trees places c.put_last.ensures.grows c.in_ok-places.ensures.below ∙ c.in_ok-places.ensures.places ∙ ap (places_from 0) sorts)
+          (below-stays mid trees places c.put_rewritten.ensures.grows c.in_ok-places.ensures.below)
+          (named-stays mid trees places c.put_rewritten.ensures.grows c.in_ok-places.ensures.below ∙ c.in_ok-places.ensures.places ∙ ap (places_from 0) sorts)
           c.new.ensures refl),
     )
 
 pub returns-in_err-last-clause-grows : goal.returns-in_err-last-clause-grows
-returns-in_err-last-clause-grows c = grows-more c.args.store.now c.put_places.new.store c.put_last.new.store c.put_places.ensures.grows c.put_last.ensures.grows
+returns-in_err-last-clause-grows c = grows-more c.args.store.now c.put_places.new.store c.put_rewritten.new.store c.put_places.ensures.grows c.put_rewritten.ensures.grows
 
 pub returns-in_err-deny-clause-grows : goal.returns-in_err-deny-clause-grows
-returns-in_err-deny-clause-grows c = grows-more c.args.store.now c.put_places.new.store c.put_last.new.store c.put_places.ensures.grows c.put_last.ensures.grows
+returns-in_err-deny-clause-grows c = grows-more c.args.store.now c.put_places.new.store c.put_rewritten.new.store c.put_places.ensures.grows c.put_rewritten.ensures.grows
 
 pub returns-clause-grows : goal.returns-clause-grows
-returns-clause-grows c = grows-more c.args.store.now c.put_places.new.store c.put_last.new.store c.put_places.ensures.grows c.put_last.ensures.grows
+returns-clause-grows c = grows-more c.args.store.now c.put_places.new.store c.put_rewritten.new.store c.put_places.ensures.grows c.put_rewritten.ensures.grows

@@ -63,4 +63,4 @@ returns-clause-answer c =
     if-ok c.ask.result (λ answer given p limit h.
     let span = at-index g.spans.items (level - 1) s (span-within trees p limit g level m h.game h.spot.low h.spot.high) c.index.ensures in
     let at = at-index g.queries.items (level - 1) q (query-within trees p limit g level m h.game h.spot.low h.spot.high) c.index_mut.ensures.value in
-    asked-answered trees p limit g level c.args.point.now m s q (take s.end c.deref.result.now) answer h span at (ap (take s.end) c.deref.ensures.value) given) c.ask.ensures.answer
+    asked-answered trees p limit g level c.args.point.now m s q c.ask.new.self (take s.end c.deref.result.now) answer h span at (ap (take s.end) c.deref.ensures.value) c.ask.ensures.same.1 given) c.ask.ensures.answer

@@ -1,4 +1,4 @@
-use Rattle.std.proofs.Common.{◌≡◌, ◌+◌, ◌-◌, ◌≤◌, ◌<◌, ℕ, List, [], length, map, take, refl, sym, ap, ◌∙◌, subst, arith}
+use Rattle.std.proofs.Common.{◌≡◌, ◌+◌, ◌-◌, ◌≤◌, ◌<◌, ℕ, List, [], length, map, take, refl, sym, ap, subst, arith}
 use Rattle.qv_words.proofs.Elements.{take-length}
 use Rattle.qv_entries.specs.Rows.{entries_in}
 use Rattle.qv_game_lanes.proofs.Placing.{at-index}
@@ -127,4 +127,4 @@ returns-in-Values-clause-values c p limit h =
     let within = query-within trees p limit g level m h.game (omega (arith, some, is)) (omega (arith, count, is)) in
     let asked = at-index g.queries.items (level - 1) q within c.index_mut.ensures.value in
     sought-sorts trees p limit g level m s q (take s.end c.deref.result.now) c.in-Values.values.items h is at asked (ap (take s.end) c.deref.ensures.value)
-    (λ x es l ts given. subst (λ (a : Answer). IsAnswerAt x es q.winner (level + 1) [] a) c.in-Values.is (c.in_ok-values.ensures.answer x es l ts given))
+    (λ x es l ts given. subst (λ (a : Answer). IsAnswerAt trees x q (level + 1) [] a) c.in-Values.is (c.in_ok-values.ensures.answer x es l ts given))

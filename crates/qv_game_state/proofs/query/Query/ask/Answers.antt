@@ -1,13 +1,13 @@
 use Rattle.std.proofs.Common.{refl, sym, subst}
 use Rattle.qv_store.specs.Problems.{quantifier_of}
-use Rattle.qv_meter.specs.Queries.{query_list}
+use Rattle.qv_store.specs.Walks.{named}
 use Rattle.qv_meter.specs.Records.{Metering}
 use Rattle.qv_meter.specs.Charging.{MayCharge}
 use Rattle.qv_game_play_laws.specs.PlayLaws.{sorts_below}
 use Rattle.qv_game_play_laws.proofs.Queries.{queries-are_over_places}
 use Rattle.qv_game_lanes.specs.Lanes.{base_of, steps_of}
 use Rattle.qv_game_state.specs.declared.query.Query.{Query}
-use Rattle.qv_game_state.proofs.Answered.{asked-few, asked-whole, lane-at, may-charge}
+use Rattle.qv_game_state.proofs.Answered.{asked-few, asked-whole, may-charge, stands-at}
 use Rattle.qv_game_state.proofs.query.Query.ask.Goals as goal
 
 pub ask-requires-clause-asked : goal.ask-requires-clause-asked
@@ -15,8 +15,11 @@ ask-requires-clause-asked c =
     let p = c.requires.0 in
     let entries = c.requires.1 in
     let h = c.requires.4 in
-    let w = quantifier_of c.args.self.now.winner in
-    (query_list p entries w c.args.level, sorts_below p c.args.level, lane-at c.args.store.now p entries c.requires.2 c.args.level c.args.self.now h.of_level.low h.query, (queries-are_over_places p entries w c.args.level h.problem h.played).1, h.at_places)
+    let trees = c.args.store.now in
+    let q = c.args.self.now in
+    let formulas = named trees q.list.items in
+    let stands = stands-at trees p entries c.requires.2 c.args.level q h.of_level.low h.query in
+    (formulas, sorts_below p c.args.level, h.query.lane, (queries-are_over_places p entries (quantifier_of q.winner) c.args.level formulas h.problem h.played stands).1, h.at_places)
 
 pub ask-requires-clause-may : goal.ask-requires-clause-may
 ask-requires-clause-may c =
@@ -37,8 +40,11 @@ returns-in-Ok-clause-asked c p entries limit tallies h =
 
 pub returns-in-Ok-clause-answer : goal.returns-in-Ok-clause-answer
 returns-in-Ok-clause-answer c p entries limit tallies h =
-    let w = quantifier_of c.args.self.now.winner in
-    c.in-Ok.ensures.answer (query_list p entries w c.args.level) (sorts_below p c.args.level) (lane-at c.args.store.now p entries limit c.args.level c.args.self.now h.of_level.low h.query) (queries-are_over_places p entries w c.args.level h.problem h.played).1 h.at_places
+    let trees = c.args.store.now in
+    let q = c.args.self.now in
+    let formulas = named trees q.list.items in
+    let stands = stands-at trees p entries limit c.args.level q h.of_level.low h.query in
+    c.in-Ok.ensures.answer formulas (sorts_below p c.args.level) h.query.lane (queries-are_over_places p entries (quantifier_of q.winner) c.args.level formulas h.problem h.played stands).1 h.at_places
 
 pub returns-in-Err-Spent-clause-asked : goal.returns-in-Err-Spent-clause-asked
 returns-in-Err-Spent-clause-asked c p entries limit tallies h =
