@@ -1,4 +1,3 @@
-pub mod Passed
 pub mod Lined
 pub mod Closed
 pub mod PrintedSections

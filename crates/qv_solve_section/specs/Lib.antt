@@ -1,6 +1,6 @@
 -- what public contracts cite
-pub mod Changes
 pub mod Sections
+pub mod Measured
 pub mod SectionLaws
 -- the inside
-pub mod Rewriting
+pub mod Formulas

@@ -1,13 +1,9 @@
--- What the lines of a section are for, and the rules among them.
+-- What the lines of a section are for.
 use Rattle.std.specs.Prelude.{◌≡◌, ℕ, ◌+◌, List, ◌++◌, length, map, All}
 use Rattle.qv_words.specs.declared.op.Answer.{Answer}
-use Rattle.qv_words.specs.declared.rule.Rule.{Rule}
-use Rattle.qv_words.specs.Tree.{Tree}
-use Rattle.qv_words.specs.Passes.{passes_by}
 use Rattle.qv_cert.specs.Line.{CertLine, IsCertLine}
 use Rattle.qv_cert.specs.Spelling.{cert_text}
 use Rattle.qv_cert.specs.Section.{Task, section_judged, AcceptedUpTo}
-use Rattle.qv_solve_section.specs.Changes.{AreChanges}
 use Rattle.qv_solve_section.specs.Sections.{IsSectionOf}
 
 -- the lines of a section, where their numbers are in their ranges, are accepted as they are
@@ -16,8 +12,3 @@ abbrev pub PrintedSectionsAreAccepted : Type 0
 PrintedSectionsAreAccepted =
     (task : Task) (answer : Answer) (n : ℕ) (lines : List CertLine) (behind : List (List ℕ)) → IsSectionOf task answer lines → All IsCertLine lines →
     section_judged task n (map cert_text lines ++ behind) ≡ AcceptedUpTo answer (n + length lines) behind
-
--- of rules, those whose passes change formulas make of these what all of them make
-abbrev pub ChangesAreAllPasses : Type 0
-ChangesAreAllPasses =
-    (rules changes : List Rule) (formulas : List Tree) → AreChanges rules formulas changes → passes_by changes formulas ≡ passes_by rules formulas

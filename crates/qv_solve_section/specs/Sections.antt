@@ -2,10 +2,10 @@
 use Rattle.std.specs.Prelude.{◌≡◌, ◌≤◌, ◌⊎◌, ◌^◌, ℕ, List, [], ◌∷◌, ◌++◌, map, All, IsTrue}
 use Rattle.qv_words.specs.declared.op.Answer.{Answer}
 use Rattle.qv_words.specs.declared.op.Answer.TheVariants.{Sat, Unsat, Unknown}
-use Rattle.qv_words.specs.declared.rule.Rule.{Rule}
 use Rattle.qv_words.specs.Tree.{Tree}
 use Rattle.qv_words.specs.Problem.{Problem}
-use Rattle.qv_words.specs.Passes.{passes, rules_in_order}
+use Rattle.qv_rewrite_passes.specs.declared.pass.Pass.{Pass}
+use Rattle.qv_rewrite_passes.specs.Passes.{behind_all, EachChanges}
 use Rattle.qv_cnf.specs.LratLine.{LratLine}
 use Rattle.qv_cnf.specs.Refutation.{Refutes}
 use Rattle.qv_cert.specs.Line.{CertLine, Check, Rewrite, Lrat, Step, End}
@@ -15,38 +15,37 @@ use Rattle.qv_cert.specs.Faults.{belongs}
 use Rattle.qv_cert.specs.Section.{Task, first_list}
 use Rattle.qv_cert.specs.Shown.{HaveNoFault, IsListOf, last_list}
 use Rattle.qv_solve_refute.specs.Greatest.{greatest_variable}
-use Rattle.qv_solve_section.specs.Changes.{AreChanges}
 
 -- the formulas that lines stand for which list
 abbrev pub formulas_of : Problem → Answer → List CertLine → List Tree
 formulas_of p answer given = first_list p answer (listed_by p given)
 
--- a `check` line, lines that list, rules, `lrat`, a refutation and `end`
-abbrev pub lines_with : ℕ → Answer → List CertLine → List Rule → List LratLine → List CertLine
-lines_with number answer given rules steps = Check number answer ∷ (given ++ (map Rewrite rules ++ Lrat ∷ (map Step steps ++ End ∷ [])))
+-- a `check` line, lines that list, passes, `lrat`, a refutation and `end`
+abbrev pub lines_with : ℕ → Answer → List CertLine → List Pass → List LratLine → List CertLine
+lines_with number answer given passes steps = Check number answer ∷ (given ++ (map Rewrite passes ++ Lrat ∷ (map Step steps ++ End ∷ [])))
 
--- such lines of a section whose formulas these are behind its rules: the steps refute their clauses
-pub record IsRefuted (number : ℕ) (answer : Answer) (given : List CertLine) (rules : List Rule) (formulas : List Tree) (lines : List CertLine) : Type 0 where
+-- such lines of a section whose formulas these are behind its passes: the steps refute their clauses
+pub record IsRefuted (number : ℕ) (answer : Answer) (given : List CertLine) (passes : List Pass) (formulas : List Tree) (lines : List CertLine) : Type 0 where
   pub steps : List LratLine
-  pub lines_are : lines ≡ lines_with number answer given rules steps
+  pub lines_are : lines ≡ lines_with number answer given passes steps
   pub few : variables_of formulas ≤ 2 ^ 30
   pub refutes : Refutes (clause_list formulas) steps
 
--- such lines where the rules are those of the ten whose passes change the formulas
+-- such lines where each of the passes changes the formulas
 pub record IsClosed (p : Problem) (number : ℕ) (answer : Answer) (given lines : List CertLine) : Type 0 where
-  pub rules : List Rule
-  pub changes : AreChanges rules_in_order (formulas_of p answer given) rules
-  pub refuted : IsRefuted number answer given rules (passes (formulas_of p answer given)) lines
+  pub passes : List Pass
+  pub changes : EachChanges passes (formulas_of p answer given)
+  pub refuted : IsRefuted number answer given passes (behind_all passes (formulas_of p answer given)) lines
 
 -- lines of a sat or unsat section, as a checker accepts them
 pub record IsProofOf (task : Task) (answer : Answer) (lines : List CertLine) : Type 0 where
   pub given : List CertLine
-  pub rules : List Rule
+  pub passes : List Pass
   pub belong : All (λ line. IsTrue (belongs answer line)) given
   pub lawful : HaveNoFault task.problem nothing given
-  pub version : (rules ≡ []) ⊎ (task.version ≡ 2)
+  pub version : (passes ≡ []) ⊎ (task.version ≡ 2)
   pub listed : IsListOf task.problem answer (listed_by task.problem given)
-  pub refuted : IsRefuted task.number answer given rules (last_list task.problem answer given rules) lines
+  pub refuted : IsRefuted task.number answer given passes (last_list task.problem answer given passes) lines
 
 -- the lines are a section of the answer; an unknown one has nothing between `check` and `end`
 abbrev pub IsSectionOf : Task → Answer → List CertLine → Type 0
@@ -56,8 +55,8 @@ IsSectionOf task Unknown lines = lines ≡ Check task.number Unknown ∷ End ∷
 
 -- the greatest variable of the clauses that a section refutes; an unknown one refutes none
 abbrev pub variables_in : (task : Task) (answer : Answer) (lines : List CertLine) → IsSectionOf task answer lines → ℕ
-variables_in task Sat lines proof = greatest_variable (clause_list (last_list task.problem Sat proof.given proof.rules))
-variables_in task Unsat lines proof = greatest_variable (clause_list (last_list task.problem Unsat proof.given proof.rules))
+variables_in task Sat lines proof = greatest_variable (clause_list (last_list task.problem Sat proof.given proof.passes))
+variables_in task Unsat lines proof = greatest_variable (clause_list (last_list task.problem Unsat proof.given proof.passes))
 variables_in task Unknown lines is = 0
 
 -- the lines are a section of the answer, and this is its greatest variable

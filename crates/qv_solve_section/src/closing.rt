@@ -1,10 +1,10 @@
 //! The end of a section.
 
 ghost use Rattle.std.specs.Prelude.{◌≡◌, ◌<◌, ◌^◌, All, IfOk, IfErr, length};
-ghost use Rattle.qv_words.specs.Passes.{passes, rules_in_order};
 ghost use Rattle.qv_store.specs.Stores.{Grows};
 ghost use Rattle.qv_store.specs.Walks.{named};
 ghost use Rattle.qv_store.specs.Problems.{problem_in, IsPosedIn};
+ghost use Rattle.qv_rewrite_passes.specs.Passes.{behind_all, EachChanges};
 ghost use Rattle.qv_cert.specs.ClauseList.{clause_list};
 ghost use Rattle.qv_cert.specs.Line.{IsCertLine, IsNumber};
 ghost use Rattle.qv_cert.specs.Listed.{listed_by};
@@ -16,18 +16,18 @@ ghost use Rattle.qv_solve_write.specs.Said.{lines_said};
 ghost use Rattle.qv_solve_write_laws.specs.WritingLaws.{AreLinesOf};
 ghost use Rattle.qv_solve_refute.specs.Greatest.{greatest_variable};
 ghost use Rattle.qv_solve_refute.specs.Refuting.{IsCharged, IsForFinal, IsMeasured, IsSpentBy};
-ghost use Rattle.qv_solve_section.specs.Changes.{AreChanges};
-ghost use Rattle.qv_solve_section.specs.Rewriting.{AreFormulas};
+ghost use Rattle.qv_solve_section.specs.Formulas.{AreFormulas};
+ghost use Rattle.qv_solve_section.specs.Measured.{EachIsForFinal, OneIsMeasured};
 ghost use Rattle.qv_solve_section.specs.Sections.{formulas_of, task_of};
 ghost use Rattle.qv_solve_section.specs.Sections.{IsClosed, IsCounted, IsRefuted};
 
 use crate::lines::section_lines;
-use crate::rewriting::{Rewritten, rewrite_all};
 use qv_cert::Line;
 use qv_cert_formulas::first_list;
 use qv_cert_nodes::Listed;
 use qv_cnf::Step;
 use qv_meter::{Lane, Meter, PlayFault};
+use qv_rewrite_lists::{Rewritten, rewrite};
 use qv_solve_refute::refute;
 use qv_solve_write::Writing;
 use qv_store::{Id, NoMemory, Problem, Store};
@@ -42,7 +42,7 @@ pub struct Closing {
 }
 
 /// The lines of the section of this number and answer, where these list Skolem terms or an
-/// expansion list: the rules whose passes change its formulas, and a refutation of their clauses.
+/// expansion list: the passes that pay for its formulas, and a refutation of their clauses.
 /// Steps that were noted before are tried for it first; the conflicts of a search are charged to
 /// the final lane. Also where memory runs out the store keeps what was put.
 pub fn close(
@@ -67,9 +67,9 @@ pub fn close(
     requires listed { Lists store.old (problem_in store.old problem.now) written.listed
         (listed_by (problem_in store.old problem.now) (lines_said written.lines.items)) }
 
-    // The newest record's play has this final list.
-    requires owed { IsForFinal meter.old (passes (formulas_of (problem_in store.old problem.now)
-        answer (lines_said written.lines.items))) }
+    // Behind whatever passes, they are a final list of the newest record's play.
+    requires owed { EachIsForFinal meter.old (formulas_of (problem_in store.old problem.now)
+        answer (lines_said written.lines.items)) }
     ensures closed { IfOk result (λ whole. IsClosed (problem_in store.old problem.now) number answer
         (lines_said written.lines.items) (lines_said whole.lines.items)) }
     ensures section { IfOk result (λ whole. IsCounted
@@ -80,8 +80,8 @@ pub fn close(
     // Only where memory runs out, or the meter is spent, are there no lines.
     ensures charged { IsCharged meter.old meter.new result }
     ensures spent { IfErr result (IsSpentBy meter.new) }
-    ensures variables { IsMeasured meter.old (passes (formulas_of
-        (problem_in store.old problem.now) answer (lines_said written.lines.items))) result }
+    ensures variables { OneIsMeasured meter.old (formulas_of (problem_in store.old problem.now)
+        answer (lines_said written.lines.items)) result }
     ensures grows { Grows store.old store.new }
 {
     meter.lane(Lane::Final);
@@ -92,7 +92,7 @@ pub fn close(
     )
 }
 
-// The formulas that were listed, behind the ten passes.
+// The formulas that were listed, behind the passes that pay.
 fn rewritten_list(
     alloc: Global,
     store: &mut Store,
@@ -104,16 +104,16 @@ fn rewritten_list(
     requires kept { IsListed store.old (problem_in store.old problem.now) listed.now }
     requires section { IsListOf (problem_in store.old problem.now) answer
         (listed_in store.old listed.now) }
-    ensures list { IfOk result (λ made. named store.new made.list.items ≡ passes (first_list
+    ensures list { IfOk result (λ made. named store.new made.list.items
+        ≡ behind_all made.passes.items (first_list (problem_in store.old problem.now) answer
+        (listed_in store.old listed.now))) }
+    ensures changes { IfOk result (λ made. EachChanges made.passes.items (first_list
         (problem_in store.old problem.now) answer (listed_in store.old listed.now))) }
-    ensures rules { IfOk result (λ made. AreChanges rules_in_order (first_list
-        (problem_in store.old problem.now) answer (listed_in store.old listed.now))
-        made.rules.items) }
     ensures below { IfOk result (λ made. All (λ id. id < length store.new) made.list.items) }
     ensures grows { Grows store.old store.new }
 {
     let first = listed_formulas(alloc, store, problem, answer, listed)?;
-    rewrite_all(alloc, store, first)
+    rewrite(alloc, store, first)
 }
 
 // The formulas that were listed.
@@ -155,7 +155,7 @@ fn refuted_lines(
     requires below { All (λ id. id < length store.now) rewritten.now.list.items }
     requires owed { IsForFinal meter.old (named store.now rewritten.now.list.items) }
     ensures refuted { IfOk result (λ whole. IsRefuted number answer (lines_said lines.items)
-        rewritten.now.rules.items (named store.now rewritten.now.list.items)
+        rewritten.now.passes.items (named store.now rewritten.now.list.items)
         (lines_said whole.lines.items)) }
     ensures greatest { IfOk result (λ whole. whole.variables
         ≡ greatest_variable (clause_list (named store.now rewritten.now.list.items))) }
@@ -167,10 +167,10 @@ fn refuted_lines(
     match refute(alloc, store, &rewritten.list, noted, meter) {
         Ok(found) => {
             let variables = found.variables;
-            let rules = &rewritten.rules;
+            let passes = &rewritten.passes;
             let laid = found.refutation.laid();
             let steps = found.refutation.steps(noted);
-            let whole = section_lines(alloc, number, answer, lines, rules, laid, steps);
+            let whole = section_lines(alloc, number, answer, lines, passes, laid, steps);
             drop(found);
             let lines = whole?;
             Ok(Closing { lines, variables })

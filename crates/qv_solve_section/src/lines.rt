@@ -12,8 +12,9 @@ ghost use Rattle.qv_solve_section.specs.Sections.{lines_with};
 
 use qv_cert::Line;
 use qv_cnf::{Lit, Step};
+use qv_rewrite_passes::Pass;
 use qv_store::NoMemory;
-use qv_words::{Answer, Rule};
+use qv_words::Answer;
 use std::alloc::Global;
 
 // The lines of a section, where these list, with two lists of steps, one behind the other.
@@ -22,7 +23,7 @@ pub(crate) fn section_lines(
     number: u64,
     answer: Answer,
     given: Vec<Line>,
-    rules: &[Rule],
+    passes: &[Pass],
     laid: &[Step],
     steps: &[Step],
 ) -> Result<Vec<Line>, NoMemory>
@@ -30,28 +31,28 @@ pub(crate) fn section_lines(
     requires form { All IsCertLine (lines_said given.items) }
     requires ids { All HasIds (lines_of laid.now ++ lines_of steps.now) }
     ensures lines { IfOk result (λ lines. lines_said lines.items
-        ≡ lines_with number answer (lines_said given.items) rules.now
+        ≡ lines_with number answer (lines_said given.items) passes.now
         (lines_of laid.now ++ lines_of steps.now)) }
     ensures form { IfOk result (λ lines. All IsCertLine (lines_said lines.items)) }
 {
     let mut lines = given;
     lines.insert(0, Line::Check { number, answer })?;
-    push_rules(&mut lines, rules)?;
+    push_passes(&mut lines, passes)?;
     lines.push(Line::Lrat)?;
     push_both(alloc, &mut lines, laid, steps)?;
     lines.push(Line::End)?;
     Ok(lines)
 }
 
-// The lines of rules.
-fn push_rules(lines: &mut Vec<Line>, rules: &[Rule]) -> Result<(), NoMemory>
+// The lines of passes.
+fn push_passes(lines: &mut Vec<Line>, passes: &[Pass]) -> Result<(), NoMemory>
     requires { All IsCertLine (lines_said lines.old.items) }
     ensures lines { OnOk result (lines_said lines.new.items
-        ≡ lines_said lines.old.items ++ map RewriteLine rules.now) }
+        ≡ lines_said lines.old.items ++ map RewriteLine passes.now) }
     ensures form { OnOk result (All IsCertLine (lines_said lines.new.items)) }
 {
-    'ruled: for rule in rules {
-        lines.push(Line::Rewrite { rule: *rule })?;
+    'passed: for pass in passes {
+        lines.push(Line::Rewrite { pass: *pass })?;
     }
     Ok(())
 }
