@@ -1,5 +1,5 @@
 #!/usr/bin/env python3
-"""Writes the cases of qv_shell_cases, qv_shell_series_cases and qv_io_cases (stdin) and what must come (stdout).
+"""Writes the cases of qv_shell_cases and qv_io_cases (stdin) and what must come (stdout).
 
 The answers come from what stands below, from bench/cases/scripts.py and from nothing of the program: tokens, commands,
 faults, and sources and sinks that give and take pieces and fail at some of their calls. Checks are answered by trying all
@@ -7,7 +7,7 @@ values; where these are too many, or a budget is spent, the answer is given with
 so a row says how many sections it has and what comes of its check. So does a model: a row of `model` says that what was
 printed before it comes again where its definitions stand in place of the declarations.
 
-usage: bench/cases/run_cases.py     writes stdin and stdout of crates/qv_shell_cases, crates/qv_shell_series_cases and crates/qv_io_cases
+usage: bench/cases/run_cases.py     writes stdin and stdout of crates/qv_shell_cases and crates/qv_io_cases
 """
 import os
 import random
@@ -341,7 +341,7 @@ def solve(source, sink, cert=None, known=None):
 
 # the rows of each driver
 RUNS, SERIES, OBJECTS = [], [], []
-ROWS = {"qv_shell_cases": RUNS, "qv_shell_series_cases": SERIES, "qv_io_cases": OBJECTS}
+ROWS = {"qv_shell_cases": RUNS, "qv_io_cases": OBJECTS}
 RUN_COMMANDS, SERIES_COMMANDS = {"run", "std-run", "words"}, {"model", "fronts", "each"}
 
 
@@ -1631,7 +1631,6 @@ def main():
          "variables); and what calls ask for (sizes). In a text \\[9:a@ ] stands for a0 to a8, each with a space.\n"
          "run: the status, what is written, the source's calls, the bytes that it has left, the sink's calls, the sections\n"
          "of the certificate, and, where the script came to its end, the status and the text of its check.\n")
-    note("Written by bench/cases/run_cases.py. A case is written as in qv_shell_cases.", SERIES)
     note("Written by bench/cases/run_cases.py. A case is written as in qv_shell_cases.", OBJECTS)
     write_runs()
     write_commands()
@@ -1659,6 +1658,7 @@ def main():
     write_clients()
     write_cores()
     write_assumed()
+    RUNS.extend(SERIES)
     for driver, rows in ROWS.items():
         write_rows(driver, rows)
 

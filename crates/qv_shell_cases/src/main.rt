@@ -1,7 +1,10 @@
-//! Answers the cases on standard input: what `run` and `plan` do.
+//! Answers the cases on standard input: what `run` and `plan` do, and several runs of one script, of
+//! which one is compared with another.
 #![tactic(auto)]
 
+mod ending;
 mod runs;
+mod series;
 
 use qv_cases_rows::{Answer, Cases, Words, answer_all};
 use qv_cases_runs::{Case, read};
@@ -12,12 +15,18 @@ enum Command {
     Run,
     StdRun,
     Words,
+    Model,
+    Fronts,
+    Each,
 }
 
-static COMMANDS: [(&str, Command); 3] = [
+static COMMANDS: [(&str, Command); 6] = [
     ("run", Command::Run),
     ("std-run", Command::StdRun),
     ("words", Command::Words),
+    ("model", Command::Model),
+    ("fronts", Command::Fronts),
+    ("each", Command::Each),
 ];
 
 // Says the answer to a case.
@@ -26,6 +35,9 @@ fn answer(alloc: Global, out: &mut Answer, command: &Command, case: &mut Case) {
         Command::Run => runs::solve(alloc, out, case),
         Command::StdRun => runs::solve_over_std(alloc, out, case),
         Command::Words => runs::words(alloc, out, case),
+        Command::Model => series::model(alloc, out, case),
+        Command::Fronts => series::fronts(alloc, out, case),
+        Command::Each => series::each(alloc, out, case),
     }
 }
 

@@ -1,37 +1,15 @@
 //! The whole `run`, and `plan`.
+use crate::ending::status_of;
 use qv_cases_rows::Answer;
 use qv_cases_runs::{
     Case, FlakyReader, FlakyWriter, Given, add_word, check_words, say_quoted, section_count,
     solve_words, whole_source,
 };
-use qv_io::{MemSink, MemSource, Sink, Source, StdSink, StdSource};
-use qv_meter::Meter;
-use qv_shell::{Nobody, Plan, Status, plan, run};
+use qv_io::{MemSink, MemSource, StdSink, StdSource};
+use qv_shell::{Plan, Status, plan};
 use std::alloc::Global;
 use std::io::{self, ErrorKind};
 use std::str;
-
-// How a run ends. What its callers needn't know of it costs them no proof.
-fn status_of<S: Source, C: Source, O: Sink, P: Sink>(
-    alloc: Global,
-    words: &[String],
-    script: &mut S,
-    cert_in: &mut C,
-    out: &mut O,
-    cert_out: &mut P,
-) -> Status {
-    let mut meter = Meter::new(alloc);
-    run(
-        alloc,
-        words,
-        script,
-        cert_in,
-        out,
-        cert_out,
-        &mut meter,
-        &mut Nobody,
-    )
-}
 
 /// Runs `solve` on a script: the status, what is written, the calls of the source and the sink, and
 /// how many sections the certificate has. Where the script comes to its end, the certificate is

@@ -54,8 +54,8 @@ fn run_given(
     add_bytes(&mut ended.cert, given.cert_out.bytes(), out);
 }
 
-// How a run ends. What its callers needn't know of it costs them no proof.
-fn status_of<S: Source, C: Source, O: Sink, P: Sink>(
+/// How a run ends. What its callers needn't know of it costs them no proof.
+pub fn status_of<S: Source, C: Source, O: Sink, P: Sink>(
     alloc: Global,
     words: &[String],
     script: &mut S,
