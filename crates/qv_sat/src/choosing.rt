@@ -23,6 +23,10 @@ pub(crate) struct Chooser {
     // Whether a clause of at least two literals has each of them as the greatest: so are the outputs
     // of gates, and inputs aren't.
     outputs: Vec<bool>,
+    // Whether the variables are decided in turn, from the least, and not by the order: the first steps
+    // of a design that was unrolled before the later ones. Then those up to `passed` have values.
+    in_turn: bool,
+    passed: u32,
 }
 
 impl Chooser {
@@ -33,6 +37,8 @@ impl Chooser {
             order: Order::new(alloc),
             signs: Vec::new(alloc),
             outputs: Vec::new(alloc),
+            in_turn: false,
+            passed: 0,
         }
     }
 
@@ -83,6 +89,7 @@ impl Chooser {
         if place < self.signs.len() {
             self.signs[place] = lit.is_positive();
         }
+        self.passed = self.passed.min(variable - 1);
         self.order.insert(variable);
     }
 
@@ -97,7 +104,20 @@ impl Chooser {
         self.order.decay();
     }
 
-    // The first variable without a value, with its last sign. It is no longer held.
+    // From now on variables are decided in turn, or by the order. The answer is whether that is new.
+    pub(crate) fn turn(&mut self, in_turn: bool) -> bool
+        ensures { self.new.order ≡ self.old.order }
+    {
+        let is_new = self.in_turn != in_turn;
+        self.in_turn = in_turn;
+        if is_new {
+            self.passed = 0;
+        }
+        is_new
+    }
+
+    // The first variable without a value, with its last sign: the next one in turn, or the most active,
+    // which is then no longer held.
     pub(crate) fn next(&mut self, trail: &Trail) -> Option<Lit>
         requires most { length self.old.order.held ≤ 2 ^ 30 }
         requires covers { Covers self.old.order.held trail.now.entries }
@@ -108,8 +128,32 @@ impl Chooser {
             CoversBut lit.variable self.new.order.held trail.now.entries) }
         ensures none { IfNone result (AllValued self.new.order.held trail.now.entries) }
     {
+        if self.in_turn {
+            if let Some(lit) = self.next_in_turn(trail) {
+                return Some(lit);
+            }
+        }
         while let Some(variable) = self.order.pop() {
             let lit = self.signed(variable);
+            if trail.value(lit).is_none() {
+                return Some(lit);
+            }
+        }
+        None
+    }
+
+    // The least variable without a value behind those that have one, with its last sign. It stays held.
+    fn next_in_turn(&mut self, trail: &Trail) -> Option<Lit>
+        requires { length self.old.order.held ≤ 2 ^ 30 }
+        ensures order { self.new.order ≡ self.old.order }
+        ensures within { IfSome result (IsWithin (length self.old.order.held)) }
+        ensures free { IfSome result (λ lit. value_of trail.now.entries lit ≡ None) }
+    {
+        let last = self.order.variables();
+        self.passed = self.passed.min(last);
+        'up: while self.passed < last {
+            self.passed += 1;
+            let lit = self.signed(self.passed);
             if trail.value(lit).is_none() {
                 return Some(lit);
             }

@@ -16,6 +16,11 @@ const APART: u64 = 10;
 
 const SHARE: u64 = 100;
 
+// From and up to how many conflicts variables are decided in turn.
+const FIRST_IN_TURN: u64 = 500;
+
+const END_OF_TURN: u64 = 2_500;
+
 // The slow average goes over no more conflicts than these.
 const LONGEST: u64 = 1 << 13;
 
@@ -66,6 +71,11 @@ impl Restarts {
             && self.fast > (self.slow / 100).saturating_mul(110)
     }
 
+    // Whether variables are decided in turn now.
+    fn is_in_turn(&self) -> bool {
+        FIRST_IN_TURN <= self.conflicts && self.conflicts < END_OF_TURN
+    }
+
     // Notes a restart.
     pub(crate) fn begin(&mut self) {
         self.count = self.count.saturating_add(1);
@@ -80,8 +90,8 @@ fn average(old: u64, one: u64, window: u64) -> u64 {
         .saturating_add(one / window)
 }
 
-// Goes back to the assumptions where a restart is due, and no clause is unit or false. The answer is
-// whether none is.
+// Goes back to the assumptions where a restart is due, or variables are decided in another way from
+// now on, and no clause is unit or false. The answer is whether none is.
 pub(crate) fn restart_if_due(
     restarts: &mut Restarts,
     trail: &mut Trail,
@@ -100,7 +110,8 @@ pub(crate) fn restart_if_due(
     if !settles(trail, chooser) {
         return false;
     }
-    if restarts.is_due(trail.order().len()) {
+    let turned = chooser.turn(restarts.is_in_turn());
+    if turned || restarts.is_due(trail.order().len()) {
         restarts.begin();
         let level = assumed_level(trail, assumptions);
         back_to(trail, chooser, level);

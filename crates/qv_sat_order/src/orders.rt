@@ -80,6 +80,13 @@ impl Order {
         Ok(())
     }
 
+    /// How many variables there are.
+    pub fn variables(&self) -> u32
+        ensures { result ≡ length self.now.held }
+    {
+        self.held.len() as u32
+    }
+
     /// Holds a variable.
     pub fn insert(&mut self, variable: u32)
         requires from { 1 ≤ variable }
