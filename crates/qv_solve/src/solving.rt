@@ -67,8 +67,8 @@ pub fn solve_one(
         (answer_of s)) }
     ensures constants { IfOk result (GivesConstants (map (tree_at store.old) assertions.now)) }
 
-    // The lines come from a game that was won, and just the passes that change the formulas are
-    // noted.
+    // The lines come from a game that was won, and each pass that is noted changes the
+    // formulas.
     ensures drawn { IfOk result (λ s. IsDrawn
         (problem_of (map (tree_at store.old) assertions.now)) number (answer_of s) (lines_of s)
         meter.new) }

@@ -2,7 +2,6 @@ use Rattle.std.proofs.Common.{◌<◌, List, length, sym, ap, ◌∙◌, subst}
 use Rattle.std.specs.Prelude.{All}
 use Rattle.std.proofs.lemmas.List.{length-map}
 use Rattle.qv_words.specs.declared.op.Answer.TheVariants.{Sat}
-use Rattle.qv_words.specs.Passes.{passes}
 use Rattle.qv_words.specs.Problem.{Existential, Problem}
 use Rattle.qv_words.specs.Skolem.{SkolemOk, SkolemTerm, goal_of}
 use Rattle.qv_words.specs.GameLaws.{WinsFrom}
@@ -18,7 +17,7 @@ use Rattle.qv_solve_write.specs.Said.{lines_said}
 use Rattle.qv_solve_draw.specs.Drawing.{IsListing}
 use Rattle.qv_solve_draw.specs.Values.{AreExistential, HaveSorts, values_of}
 use Rattle.qv_solve_section.specs.Sections.{IsClosed, IsCounted, formulas_of, task_of}
-use Rattle.qv_solve_refute.specs.Refuting.{IsForFinal}
+use Rattle.qv_solve_section.specs.Measured.{EachIsForFinal}
 use Rattle.qv_meter.specs.Units.{Final}
 use Rattle.qv_meter.specs.Records.{in_lane}
 use Rattle.qv_solve.proofs.Metered.{CountsInstances, charged-counts, charged-instances, conflicts-instances}
@@ -80,7 +79,7 @@ close-requires-clause-owed c =
     let p = problem_in c.args.store.now c.args.problem.now in
     let given = lines_said c.in_ok-drawn.drawn.written.lines.items in
     let same = problem-grown c.args.store.now c.draw_terms.new.store c.draw_terms.ensures.grows c.args.problem.now c.requires.posed in
-    subst (λ (q : Problem). IsForFinal c.args.meter.now (passes (formulas_of q Sat given))) (sym same)
+    subst (λ (q : Problem). EachIsForFinal c.args.meter.now (formulas_of q Sat given)) (sym same)
     (owed-sat p c.args.store.now c.args.entries.now c.args.meter.now given c.requires.posed.problem c.requires.«record» c.requires.played c.requires.won c.in_ok-drawn.ensures.terms)
 
 pub returns-clause-solution : goal.returns-clause-solution

@@ -1,7 +1,6 @@
 use Rattle.std.proofs.Common.{◌+◌, ℕ, length, sym, subst}
 use Rattle.std.proofs.lemmas.List.{length-map}
 use Rattle.qv_words.specs.declared.op.Answer.TheVariants.{Unsat}
-use Rattle.qv_words.specs.Passes.{passes}
 use Rattle.qv_words.specs.Problem.{Problem}
 use Rattle.qv_words.specs.Expansion.{IsExpansion}
 use Rattle.qv_words.specs.Linked.{tree_of}
@@ -14,7 +13,7 @@ use Rattle.qv_game.proofs.Counting.{same-transitive}
 use Rattle.qv_solve_write.specs.Said.{lines_said}
 use Rattle.qv_solve_draw.specs.Drawing.{IsListing}
 use Rattle.qv_solve_section.specs.Sections.{IsClosed, IsCounted, formulas_of, task_of}
-use Rattle.qv_solve_refute.specs.Refuting.{IsForFinal}
+use Rattle.qv_solve_section.specs.Measured.{EachIsForFinal}
 use Rattle.qv_meter.specs.Units.{Final}
 use Rattle.qv_meter.specs.Records.{in_lane}
 use Rattle.qv_solve.proofs.Metered.{CountsInstances, charged-counts, charged-instances, conflicts-instances, entries-counted, lines-counted, only-counts}
@@ -52,7 +51,7 @@ close-requires-clause-owed c =
     let given = lines_said c.in_ok-written.written.lines.items in
     let same = problem-grown c.args.store.now c.draw_lines.new.store c.draw_lines.ensures.grows c.args.problem.now c.requires.posed in
     let charged = lines-counted p (length c.args.entries.now) (length (tree_of p es)) c.args.meter.now c.draw_lines.new.meter c.requires.«record» c.in_ok-written.ensures.counted in
-    subst (λ (q : Problem). IsForFinal c.draw_lines.new.meter (passes (formulas_of q Unsat given))) (sym same)
+    subst (λ (q : Problem). EachIsForFinal c.draw_lines.new.meter (formulas_of q Unsat given)) (sym same)
     (owed-unsat p c.args.store.now c.args.entries.now c.draw_lines.new.meter given c.requires.posed.problem charged c.requires.played c.requires.won c.in_ok-written.ensures.tree)
 
 pub returns-clause-solution : goal.returns-clause-solution
