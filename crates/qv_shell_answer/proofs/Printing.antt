@@ -7,7 +7,7 @@ use Rattle.std.proofs.lemmas.List.{map-append}
 use Rattle.std.proofs.lemmas.List.Elements.{recursion_from_All, All-from_recursion}
 use Rattle.qv_words.specs.declared.op.Answer.{Answer}
 use Rattle.qv_words.specs.declared.op.Answer.TheVariants.{Sat, Unsat, Unknown}
-use Rattle.qv_words.specs.declared.rule.Rule.{Rule}
+use Rattle.qv_rewrite_passes.specs.declared.pass.Pass.{Pass}
 use Rattle.qv_words.proofs.Elements.{all-at, all-weaker}
 use Rattle.qv_words.proofs.Leaves.{back, both, front}
 use Rattle.qv_cnf.specs.LratLine.{LratLine}
@@ -54,43 +54,43 @@ no-step answer (OperatorNode node o children) h = refl
 no-step answer (Skolem place node) h = refl
 no-step answer (Instance line parent node) h = refl
 no-step answer (Eigen line parent) h = refl
-no-step answer (Rewrite rule) h = refl
+no-step answer (Rewrite pass) h = refl
 no-step answer Lrat h = refl
 no-step Sat (Step line) h = absurd cc
 no-step Unsat (Step line) h = absurd cc
 no-step Unknown (Step line) h = absurd cc
 no-step answer End h = refl
 
-rules-outer : (rules : List Rule) → AllByRecursion IsOuter (map Rewrite rules ++ Lrat ∷ [])
-rules-outer [] = (refl, tt)
-rules-outer (rule ∷ rules) = (refl, rules-outer rules)
+passes-outer : (passes : List Pass) → AllByRecursion IsOuter (map Rewrite passes ++ Lrat ∷ [])
+passes-outer [] = (refl, tt)
+passes-outer (pass ∷ passes) = (refl, passes-outer passes)
 
 -- ---- a whole section
 
-abbrev outer_lines : ℕ → Answer → List CertLine → List Rule → List CertLine
-outer_lines number answer given rules = Check number answer ∷ (given ++ (map Rewrite rules ++ Lrat ∷ []))
+abbrev outer_lines : ℕ → Answer → List CertLine → List Pass → List CertLine
+outer_lines number answer given passes = Check number answer ∷ (given ++ (map Rewrite passes ++ Lrat ∷ []))
 
 abbrev inner_lines : List LratLine → List CertLine
 inner_lines steps = map Step steps ++ End ∷ []
 
-in-two : (number : ℕ) (answer : Answer) (given : List CertLine) (rules : List Rule) (steps : List LratLine) → lines_with number answer given rules steps ≡ outer_lines number answer given rules ++ inner_lines steps
-in-two number answer given rules steps =
+in-two : (number : ℕ) (answer : Answer) (given : List CertLine) (passes : List Pass) (steps : List LratLine) → lines_with number answer given passes steps ≡ outer_lines number answer given passes ++ inner_lines steps
+in-two number answer given passes steps =
     ap (λ (ls : List CertLine). Check number answer ∷ ls)
-    (ap (λ (ls : List CertLine). given ++ ls) (sym (append_assoc (map Rewrite rules) (Lrat ∷ []) (inner_lines steps)))
-    ∙ sym (append_assoc given (map Rewrite rules ++ Lrat ∷ []) (inner_lines steps)))
+    (ap (λ (ls : List CertLine). given ++ ls) (sym (append_assoc (map Rewrite passes) (Lrat ∷ []) (inner_lines steps)))
+    ∙ sym (append_assoc given (map Rewrite passes ++ Lrat ∷ []) (inner_lines steps)))
 
 proof-printed : (task : Task) (answer : Answer) (lines : List CertLine) → IsProofOf task answer lines → All IsCertLine lines → IsProof task answer (map line_text lines)
 proof-printed task answer lines h form =
-    let outer = outer_lines task.number answer h.given h.rules in
+    let outer = outer_lines task.number answer h.given h.passes in
     let inner = inner_lines h.refuted.steps in
-    let split : lines ≡ outer ++ inner = h.refuted.lines_are ∙ in-two task.number answer h.given h.rules h.refuted.steps in
+    let split : lines ≡ outer ++ inner = h.refuted.lines_are ∙ in-two task.number answer h.given h.passes h.refuted.steps in
     let each : AllByRecursion IsCertLine (outer ++ inner) = subst (AllByRecursion IsCertLine) split (recursion_from_All IsCertLine lines form) in
     let belong = recursion_from_All (λ line. IsTrue (belongs answer line)) h.given h.belong in
     let none : AllByRecursion IsOuter outer =
-    (refl, both IsOuter h.given (map Rewrite h.rules ++ Lrat ∷ []) (all-weaker (λ line. IsTrue (belongs answer line)) IsOuter h.given (no-step answer) belong) (rules-outer h.rules)) in
+    (refl, both IsOuter h.given (map Rewrite h.passes ++ Lrat ∷ []) (all-weaker (λ line. IsTrue (belongs answer line)) IsOuter h.given (no-step answer) belong) (passes-outer h.passes)) in
     record {
       given = h.given;
-      rules = h.rules;
+      passes = h.passes;
       steps = h.refuted.steps;
       outer = map line_text outer;
       inner = map line_text inner;
