@@ -1,24 +1,24 @@
 -- What is kept of a game beside what was won.
-use Rattle.std.proofs.Common.{◌≡◌, ℕ, ◌+◌, ◌==◌, Bool, true, false, cond, Result, Ok, Option, Some, None, List, [], ◌∷◌, length, map, slice_get, refl, sym, ap, subst, ◌∙◌, inl, arith}
+use Rattle.std.proofs.Common.{◌≡◌, ℕ, ◌+◌, Bool, true, false, cond, Result, Ok, Option, Some, None, List, [], ◌∷◌, length, map, slice_get, refl, sym, ap, subst, ◌∙◌, inl, arith}
 use Rattle.std.specs.Prelude.{IfOk, IsSomeAnd}
 use Rattle.std.specs.List.{All}
-use Rattle.std.proofs.lemmas.Bool.{eq-eqb}
 use Rattle.qv_words.specs.Tree.{Tree}
 use Rattle.qv_words.specs.Problem.{Place, Problem, Quantifier, other}
-use Rattle.qv_words.specs.Prenex.{negation}
-use Rattle.qv_words.specs.Linked.{Block, Entry, blocks_of, entries_of, same_quantifier}
+use Rattle.qv_words.specs.Linked.{Block, Entry, blocks_of, same_quantifier}
 use Rattle.qv_words.specs.GameLaws.{HasWon}
 use Rattle.qv_words.proofs.Elements.{to-some}
 use Rattle.qv_cnf.specs.Derivation.{additions}
+use Rattle.qv_rewrite_passes.specs.Passes.{IsBehind}
 use Rattle.qv_store.specs.Problems.{quantifier_of}
+use Rattle.qv_store.specs.Walks.{named}
 use Rattle.qv_store.specs.declared.problem.Quant.{Quant}
 use Rattle.qv_entries.specs.Rows.{Row, IsRowIn, entries_in}
 use Rattle.qv_meter.specs.Played.{IsPlayed}
-use Rattle.qv_meter.specs.Queries.{block_count, last_query, query_list}
+use Rattle.qv_meter.specs.Queries.{block_count}
 use Rattle.qv_meter.specs.Records.{Kept, Metering, Record, position_of}
 use Rattle.qv_meter.specs.Units.{Query as QueryLane}
 use Rattle.qv_meter.specs.declared.faults.PlayFault.{PlayFault}
-use Rattle.qv_game_lanes.specs.Lanes.{steps_of, IsLane}
+use Rattle.qv_game_lanes.specs.Lanes.{steps_of}
 use Rattle.qv_game_lanes.specs.declared.lane.Lane.{Lane}
 use Rattle.qv_game_state.specs.declared.game.Game.{Game}
 use Rattle.qv_game_state.specs.declared.query.Query.{Query}
@@ -33,6 +33,7 @@ use Rattle.qv_game.specs.WholeGames.{IsOver, IsWonBy}
 use Rattle.qv_game.proofs.Rounds.{of-charged}
 use Rattle.qv_game_state.proofs.Blocks.{same-self}
 use Rattle.qv_meter.proofs.Linking.{same as one-player}
+use Rattle.qv_meter.proofs.Standing.{list-last, stands-last}
 
 -- ---- players
 
@@ -47,18 +48,17 @@ one-block [] h = absurd (omega (arith, h))
 one-block (b ∷ []) h = (b, refl)
 one-block (b ∷ c ∷ bs) h = absurd (omega (arith, h))
 
--- its list is the matrix, or its negation
-last-list : (p : Problem) (entries : List Entry) (winner : Quantifier) → 1 ≡ block_count p → query_list p entries winner 2 ≡ last_query p winner ∷ []
-last-list p entries winner one =
-    let last : (2 == block_count p + 1) ≡ true = eq-eqb 2 (block_count p + 1) (omega (arith, one)) in
-    ap (λ (k : Bool). cond k (last_query p winner ∷ []) (map (λ e. negation e.region) (entries_of 2 winner entries))) last
-
 asked-lane : (trees : List Tree) (p : Problem) (entries : List Entry) (n limit : ℕ) (q : Query) (m : Metering) → IsQueryAt trees p entries limit 0 q → IsCharged p n limit (tally_of q ∷ []) m → IsAskedLane trees p (quantifier_of q.winner) q.lane m
 asked-lane trees p entries n limit q m at charged =
     let winner = quantifier_of q.winner in
+    let formulas = named trees q.list.items in
+    let levels = charged.levels in
+    let last : 2 ≡ block_count p + 1 = omega (arith, levels) in
     let same : slice_get charged.kept.tallies (position_of (QueryLane winner 2)) ≡ Some (additions (steps_of q.lane)) = charged.each 0 (tally_of q) refl ∙ ap Some at.lane.learnt in
     record {
-      lane = subst (λ (fs : List Tree). IsLane trees fs q.lane) (last-list p entries winner charged.levels) at.lane;
+      formulas = formulas;
+      behind = subst (λ (list : List Tree). IsBehind list formulas) (list-last p entries winner 2 last) (stands-last p entries winner 2 formulas last at.list);
+      lane = at.lane;
       charged =
           to-some m.newest (λ (r : Record). IsSomeAnd r.kept (λ (k : Kept). slice_get k.tallies (position_of (QueryLane winner 2)) ≡ Some (additions (steps_of q.lane)))) charged.newest charged.newest_is
           (to-some charged.newest.kept (λ (k : Kept). slice_get k.tallies (position_of (QueryLane winner 2)) ≡ Some (additions (steps_of q.lane))) charged.kept charged.kept_is same);

@@ -5,6 +5,7 @@ use Rattle.qv_words.specs.Problem.{Problem, Quantifier, other}
 use Rattle.qv_words.specs.Linked.{Block, blocks_of}
 use Rattle.qv_cnf.specs.Derivation.{additions}
 use Rattle.qv_cnf.specs.LratLine.{LratLine}
+use Rattle.qv_rewrite_passes.specs.Passes.{IsBehind}
 use Rattle.qv_store.specs.Problems.{quantifier_of}
 use Rattle.qv_meter.specs.Charging.{OfNewest}
 use Rattle.qv_meter.specs.Queries.{last_query}
@@ -27,10 +28,12 @@ steps_in played = steps_from played.lane
 abbrev pub IsAskedAbout : Problem → Quantifier → Type 0
 IsAskedAbout p winner = (b : Block) × (blocks_of p.prefix ≡ b ∷ []) × (winner ≡ other b.owner)
 
--- the lane of that query: it has the clauses of the matrix, or of its negation, and its steps have
--- as many additions as conflicts were charged to the query
+-- the lane of that query: it has the clauses of the matrix, or of its negation, behind some passes,
+-- and its steps have as many additions as conflicts were charged to the query
 pub record IsAskedLane (trees : List Tree) (p : Problem) (winner : Quantifier) (l : Lane) (m : Metering) : Type 0 where
-  pub lane : IsLane trees (last_query p winner ∷ []) l
+  pub formulas : List Tree
+  pub behind : IsBehind (last_query p winner ∷ []) formulas
+  pub lane : IsLane trees formulas l
   pub charged : OfNewest m (λ r k. slice_get k.tallies (position_of (QueryLane winner 2)) ≡ Some (additions (steps_of l)))
 
 -- what is kept where this player has won: that lane, if there is such a query, and else none
