@@ -1,6 +1,6 @@
 #!/usr/bin/env python3
-"""Writes the cases of crates/qv_check_clauses_cases (stdin) and what must come (stdout): certificates beside their scripts, with the
-clause lists of their sections.
+"""Writes the cases of crates/qv_check_trim_cases (stdin) and what must come (stdout): those of trim_cases.py, and certificates beside
+their scripts, with the clause lists of their sections.
 
 The answers are computed here from the rules and not by the program: scripts and sections are followed by bench/cases/verdict_cases.py,
 and a section's clause list is that of bench/cases/blast_cases.py for the formulas that it comes to.
@@ -12,6 +12,7 @@ import threading
 
 import check_cases
 import run_cases
+import trim_cases
 import verdict_cases
 from chance_scripts import random_script
 from check_cases import RANDOM, Section
@@ -127,7 +128,7 @@ def main():
     by_hand()
     by_chance(60, 2)
     bad()
-    write_rows("qv_check_clauses_cases", ROWS)
+    write_rows("qv_check_trim_cases", [*trim_cases.rows(), ("", None), *ROWS])
 
 
 if __name__ == "__main__":

@@ -1,12 +1,12 @@
 #!/usr/bin/env python3
-"""Writes the cases of qv_trim_cases and qv_check_trim_cases, and what must come of each: their stdin and stdout. A case is the text of a
+"""The cases of sections and certificates that are trimmed, which bench/cases/clauses_cases.py writes with its own. A case is the text of a
 section, and how many bytes may be written; or a script and a certificate, and how many bytes may be printed and written. The answers come
 from the reference below, which is written from the rules and not from the program: needed lines are found by following hints from the
 first line without literals until there are no more. What is printed of a certificate follows from how it was made.
 """
 import random
 
-from rows import write_rows, written, quoted
+from rows import written, quoted
 
 CHANCE = random.Random(20261130)
 ROWS = []
@@ -78,7 +78,7 @@ def outcome(text, room):
 
 
 def add(text, room=10000):
-    ROWS.append((f"trim {room} {written(text.encode())}", outcome(text, room)))
+    ROWS.append((f"section {room} {written(text.encode())}", outcome(text, room)))
 
 
 def note(text):
@@ -164,7 +164,7 @@ def accepted_steps():
 
 def certificates():
     note("trim PRINTS WRITES SCRIPT|CERT: how the check of the certificate beside the script ends, what is printed to a sink with so much room,")
-    note("and what is written to another. Written by bench/cases/trim_cases.py.")
+    note("and what is written to another. By bench/cases/trim_cases.py.")
     one, head = "(check-sat)", "qbv-cert 1\n"
     note("")
     note("accepted")
@@ -208,9 +208,10 @@ def certificates():
         run(one * count, head, sections, "", "accepted")
 
 
-def main():
-    note("trim ROOM TEXT: the section that the text begins with is written trimmed to a sink with so much room: how many bytes it has, or that")
-    note("writing fails, and what was written. Written by bench/cases/trim_cases.py.")
+def rows():
+    """All rows: of sections, then of certificates."""
+    note("section ROOM TEXT: the section that the text begins with is written trimmed to a sink with so much room: how many bytes it has, or that")
+    note("writing fails, and what was written. By bench/cases/trim_cases.py.")
     note("")
     note("what isn't needed is left out, and what stands behind the first line without literals")
     add(section(SMALLEST))
@@ -245,11 +246,6 @@ def main():
     note("lines by chance")
     for _ in range(300):
         add(section(chance_steps(), CHANCE.choice(("sat", "unsat")), CHANCE.choice(("", "check 2 sat\n", "x"))))
-    write_rows("qv_trim_cases", ROWS)
-    ROWS.clear()
+    note("")
     certificates()
-    write_rows("qv_check_trim_cases", ROWS)
-
-
-if __name__ == "__main__":
-    main()
+    return ROWS
