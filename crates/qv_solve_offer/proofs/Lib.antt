@@ -3,3 +3,5 @@ pub mod Staying
 -- the inside
 pub mod Parts
 pub mod PartsExample
+pub mod Valued
+pub mod ValuedExample

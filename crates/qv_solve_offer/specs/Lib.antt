@@ -3,3 +3,4 @@ pub mod Parts
 pub mod Sharing
 -- the inside
 pub mod Asking
+pub mod Valued

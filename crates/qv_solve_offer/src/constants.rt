@@ -31,7 +31,7 @@ pub(crate) fn words_in(
 }
 
 // The terms of formulas.
-fn visit_all(walk: &mut Walk, store: &Store, formulas: &[Id]) -> Result<(), NoMemory>
+pub(crate) fn visit_all(walk: &mut Walk, store: &Store, formulas: &[Id]) -> Result<(), NoMemory>
     requires ids { All (λ id. id < length store.now) formulas.now }
     requires walk { IsWalk store.now walk.old }
     ensures walk { IsWalk store.now walk.new }
@@ -62,7 +62,11 @@ fn put_all(
 }
 
 // Puts a word at an index, behind as many places as there must be.
-fn put(words: &mut Vec<Option<Word>>, index: u64, word: Option<Word>) -> Result<(), AllocError> {
+pub(crate) fn put(
+    words: &mut Vec<Option<Word>>,
+    index: u64,
+    word: Option<Word>,
+) -> Result<(), AllocError> {
     if index >= MOST_CONSTANTS {
         return Ok(());
     }

@@ -6,6 +6,7 @@ mod base;
 mod constants;
 mod offering;
 mod shared;
+mod standing;
 mod tally;
 
 pub use offering::unneeded;

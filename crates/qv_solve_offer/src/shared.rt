@@ -10,6 +10,7 @@ ghost use Rattle.qv_solve_offer.specs.Sharing.{IsShared};
 
 use crate::base::Base;
 use crate::constants::words_in;
+use crate::standing::standing;
 use qv_blast::BlastFault;
 use qv_cnf::Lit;
 use qv_store::{Id, NoMemory, Store};
@@ -31,6 +32,8 @@ pub struct Shared {
     begun: bool,
     // One at most.
     bases: Vec<Base>,
+    // The words that were found last.
+    last: Vec<Option<Word>>,
 }
 
 impl Shared {
@@ -42,13 +45,15 @@ impl Shared {
             alloc,
             begun: false,
             bases: Vec::new(alloc),
+            last: Vec::new(alloc),
         }
     }
 
-    /// Words for the constants of formulas, by index, which may make all of them true. There are
-    /// none at the first check, where there are few formulas, where one has a quantifier, and where
-    /// no words are found within a budget and variables of its own, which are charged to no record.
-    /// Nothing is claimed of the words.
+    /// Words for the constants of formulas, by index, which may make all of them true: the last ones
+    /// that were found, where these do, and otherwise what a search finds. There are none at the
+    /// first check, where there are few formulas, where one has a quantifier, and where no words are
+    /// found within a budget and variables of its own, which are charged to no record. Nothing is
+    /// claimed of the words.
     pub fn words(&mut self, store: &Store, formulas: &[Id]) -> Vec<Option<Word>>
         requires ids { All (λ id. id < length store.now) formulas.now }
         requires shared { IsShared store.now self.old }
@@ -60,16 +65,35 @@ impl Shared {
             self.begun = true;
             return Vec::new(self.alloc);
         }
-        match self.found(store, formulas) {
+        match self.offered(store, formulas) {
             Ok(words) => words,
             Err(_) => {
                 self.bases.clear();
+                self.last.clear();
                 Vec::new(self.alloc)
             }
         }
     }
 
-    // The same where there was a check.
+    // The last words where all formulas are true under them, and otherwise those that are found.
+    fn offered(&mut self, store: &Store, formulas: &[Id]) -> Result<Vec<Option<Word>>, BlastFault>
+        requires trees { AreShared store.now }
+        requires ids { All (λ id. id < length store.now) formulas.now }
+        requires free { All (λ id. IsQuantifierFree (tree_at store.now id)) formulas.now }
+        requires shared { IsShared store.now self.old }
+        ensures shared { OnOk result (IsShared store.now self.new) }
+    {
+        if let Some(words) = standing(self.alloc, store, formulas, &self.last)? {
+            return Ok(words);
+        }
+        let words = self.found(store, formulas)?;
+        if !words.is_empty() {
+            self.last = copied(self.alloc, &words)?;
+        }
+        Ok(words)
+    }
+
+    // The words that a search finds.
     fn found(&mut self, store: &Store, formulas: &[Id]) -> Result<Vec<Option<Word>>, BlastFault>
         requires trees { AreShared store.now }
         requires ids { All (λ id. id < length store.now) formulas.now }
@@ -98,6 +122,13 @@ impl Shared {
         }
         Ok(())
     }
+}
+
+// The same words once more.
+fn copied(alloc: Global, words: &[Option<Word>]) -> Result<Vec<Option<Word>>, NoMemory> {
+    let mut copied = Vec::with_capacity(alloc, words.len())?;
+    copied.extend_from_slice(words)?;
+    Ok(copied)
 }
 
 // Whether a base has become large beside what it began with.
