@@ -1,7 +1,8 @@
-//! Prints which formulas of standard input may be left out together, a line for each case, which has
-//! a store of its own. Terms are written as `v0:8 8:3 bvult`.
+//! Prints which formulas of standard input may be left out together, and which words checks are
+//! offered, a line for each case, which has a store of its own. Terms are written as `v0:8 8:3 bvult`.
 #![tactic(auto)]
 
+mod checks;
 mod offers;
 
 use offers::OfferCases;

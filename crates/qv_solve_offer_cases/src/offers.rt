@@ -2,6 +2,7 @@
 
 ghost use Rattle.std.specs.Prelude.{◌<◌, All, IfSome, length};
 
+use crate::checks::say_checks;
 use qv_cases_rows::{Answer, Cases, Words};
 use qv_cases_terms::{has, terms};
 use qv_solve_offer::unneeded;
@@ -16,6 +17,8 @@ pub struct OfferCases {
 
 impl Cases for OfferCases {
     // `offer PLACES TERM;TERM;..`: which of the places, with commas between them, or `none`
+    // `checks TERM;TERM;.. / TERM;TERM;.. / ..`: the words that each check is offered, with a slash
+    // between them, or `none`
     fn answer(&mut self, words: &mut Words<'_>, out: &mut Answer) {
         if words.passes("offer") {
             let named = words.next();
@@ -23,6 +26,8 @@ impl Cases for OfferCases {
                 Some(places) => say_places(&places, out),
                 None => out.refuse(),
             }
+        } else if words.passes("checks") {
+            say_checks(self.alloc, words.rest(), out);
         } else {
             out.refuse();
         }
@@ -46,7 +51,7 @@ fn places(alloc: Global, text: &str) -> Option<Vec<u64>> {
 }
 
 // The terms again, where each is of the store.
-fn known(alloc: Global, store: &Store, ids: &[Id]) -> Option<Vec<Id>>
+pub(crate) fn known(alloc: Global, store: &Store, ids: &[Id]) -> Option<Vec<Id>>
     ensures { IfSome result (λ known. All (λ id. id < length store.now) known.items) }
 {
     let mut known = Vec::new(alloc);
