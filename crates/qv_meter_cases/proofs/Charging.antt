@@ -37,7 +37,7 @@ may-begin = record {
     counted = refl;
     undecided = All-from_recursion _ [] tt;
     asked = record { low = omega arith; high = omega arith };
-    list = inl (refl, [], refl);
+    list = inl (refl, ([], refl));
   };
   clauses = false-base;
   charged = refl;
@@ -105,7 +105,7 @@ over-large = record {
     counted = refl;
     undecided = All-from_recursion _ [] tt;
     asked = record { low = omega arith; high = omega arith };
-    list = inl (refl, [], refl);
+    list = inl (refl, ([], refl));
   };
   over = omega arith;
 }
