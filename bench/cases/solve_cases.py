@@ -30,8 +30,11 @@ D, F = leaf("c3:8"), leaf("c5:bool")
 
 SUM = (leaf("c1:32"), leaf("c2:32"))
 
-# Its final list has other clauses than its query list: a pass takes the conjunction away.
+# A pass takes the conjunction away, before the game as behind it.
 LONGER = app("and", no(A), TRUE)
+
+# Four clauses, no two of which refute the others.
+TWICE = [app("or", a, c) for a in (A, no(A)) for c in (C, no(C))]
 
 ROWS = []
 
@@ -203,10 +206,11 @@ def limited_cases():
     case([FALSE], "unsat, accepted, instances 0, conflicts 1, settled", command="count")
     case([A], sat([A]) + ", instances 1, conflicts 1, settled", command="count")
     case([A, no(A)], UNSAT + ", instances 2, conflicts 1, settled", command="count")
-    case([A, LONGER], UNSAT + ", instances 2, conflicts 2, settled", command="count")
+    case([A, LONGER], UNSAT + ", instances 2, conflicts 1, settled", command="count")
     case([A], unknown("variables") + ", instances 0, conflicts 0, kept", (CONFLICTS, INSTANCES, 1), command="count")
     case([A, no(A)], UNSAT + ", instances 2, conflicts 1, settled", (1, INSTANCES, VARIABLES), command="count")
-    case([A, LONGER], unknown("conflicts") + ", instances 2, conflicts 1, kept", (1, INSTANCES, VARIABLES), command="count")
+    case([A, LONGER], UNSAT + ", instances 2, conflicts 1, settled", (1, INSTANCES, VARIABLES), command="count")
+    case(TWICE, unknown("conflicts") + ", instances 0, conflicts 1, kept", (1, INSTANCES, VARIABLES), command="count")
     note("instances: an entry for one block, and where it is unsat a line for each constant")
     for formulas in [[A], [same(B, lit(3, 5)), no(A)], [A, C, F]]:
         case(formulas, sat(formulas), (CONFLICTS, 1, VARIABLES))
@@ -218,11 +222,12 @@ def limited_cases():
     case([FALSE], UNSAT, (CONFLICTS, 1, VARIABLES))
     case([below_zero(8)], unknown("instances"), (CONFLICTS, 1, VARIABLES))
     case([greatest(8)], unknown("instances"), (CONFLICTS, 1, VARIABLES))
-    note("conflicts: a list of the game and a final list that a pass changes need one each; pigeons need more")
+    note("conflicts: what a pass changes is changed before the game, so its steps refute the final list too; four clauses need two, pigeons more")
     case([A], sat([A]), (1, INSTANCES, VARIABLES))
     case([A, no(A)], UNSAT, (1, INSTANCES, VARIABLES))
-    case([A, LONGER], unknown("conflicts"), (1, INSTANCES, VARIABLES))
-    case([A, LONGER], UNSAT, (2, INSTANCES, VARIABLES))
+    case([A, LONGER], UNSAT, (1, INSTANCES, VARIABLES))
+    case(TWICE, unknown("conflicts"), (1, INSTANCES, VARIABLES))
+    case(TWICE, UNSAT, (2, INSTANCES, VARIABLES))
     sorts = ["bool"] * 20
     case(pigeons(5, 4), unknown("conflicts"), (1, INSTANCES, VARIABLES), sorts)
     case(pigeons(5, 4), UNSAT, sorts=sorts)
@@ -243,7 +248,8 @@ def limited_cases():
     note("each KIND MOST SORTS/TERMS: the answers with limits from 1 on, where they differ from the one before")
     each("conflicts", 3, [A], sat([A]))
     each("conflicts", 4, [A, no(A)], UNSAT)
-    each("conflicts", 4, [A, LONGER], unknown("conflicts"), UNSAT)
+    each("conflicts", 4, [A, LONGER], UNSAT)
+    each("conflicts", 4, TWICE, unknown("conflicts"), UNSAT)
     each("conflicts", 60, pigeons(4, 3), unknown("conflicts"), UNSAT, sorts=["bool"] * 12)
     each("instances", 4, [A, no(A)], unknown("instances"), UNSAT)
     each("variables", 12, [same(B, lit(3, 5))], unknown("variables"), sat([B]))
@@ -260,7 +266,7 @@ def several_checks():
     checks((AMPLE, [same(B, lit(3, 5))]), (AMPLE, [same(B, lit(3, 5)), A]), (AMPLE, [same(B, lit(3, 5)), A, no(same(B, lit(3, 5)))]),
            (AMPLE, [same(B, lit(3, 5))]))
     checks((AMPLE, [greatest(2)]), ((CONFLICTS, 1, VARIABLES), [greatest(2)], "instances"), (AMPLE, [no(greatest(2))]), (AMPLE, [greatest(2), A]))
-    checks(((CONFLICTS, 1, VARIABLES), [A, no(A)], "instances"), ((1, INSTANCES, VARIABLES), [A, LONGER], "conflicts"),
+    checks(((CONFLICTS, 1, VARIABLES), [A, no(A)], "instances"), ((1, INSTANCES, VARIABLES), TWICE, "conflicts"),
            ((CONFLICTS, INSTANCES, 1), [A, no(A)], "variables"), (AMPLE, [A, no(A)]))
 
 
