@@ -1203,7 +1203,7 @@ def pigeons(birds, holes):
 
 BOTH = b"(declare-const p Bool)(assert p)(assert (not p))(check-sat)"
 # A pass takes the conjunction away, so its final list has other clauses than its query list.
-LONGER = b"(declare-const p Bool)(assert p)(assert (and (not p) true))(check-sat)"
+TWICE = b"(declare-const p Bool)(declare-const q Bool)(assert (and (or p q) (or p (not q)) (or (not p) q) (or (not p) (not q))))(check-sat)"
 ONE = b"(declare-const p Bool)(assert p)(check-sat)"
 # Of formulas with quantifiers no check offers values to the next.
 QUANTIFIED = b"(assert (forall ((q Bool)) (or p q)))"
@@ -1244,9 +1244,9 @@ def write_worked():
 
 
 def write_budgets():
-    note("\nBudgets of 1, and the least that do. Where p and its negation are asserted, instances are spent in the tree, and\n"
-         "conflicts in the final list where a pass changes its clauses; the pigeons above spend theirs in a query.")
-    for kind, text in (("conflicts", LONGER), ("instances", BOTH), ("variables", BOTH)):
+    note("\nBudgets of 1, and the least that do. Where p and its negation are asserted, instances are spent in the tree; four clauses\n"
+         "over two constants need two conflicts in a query.")
+    for kind, text in (("conflicts", TWICE), ("instances", BOTH), ("variables", BOTH)):
         run(b"(check-sat)(assert false)(check-sat)", **{kind: 1})
         run(text + REASON, known=numbered(spent(kind)), **{kind: 1})
     run(b"(check-sat)(assert false)(check-sat)", conflicts=1, instances=1, variables=1)
@@ -1254,7 +1254,7 @@ def write_budgets():
     run(ONE, variables=2)
     run(ONE + REASON, variables=1, known=numbered(spent("variables")))
     run(BOTH, conflicts=1, instances=2)
-    run(LONGER, conflicts=2, instances=2)
+    run(TWICE, conflicts=2, instances=3)
     run(greatest(8) + REASON, instances=1, known=numbered(spent("instances")))
     note("\nEach check has its own budget, and the last answer has its own reason.")
     run(BOTH.replace(b"(check-sat)", b"(check-sat)" * 3) + b"(push)(pop)(check-sat)" + REASON, conflicts=1)
@@ -1269,12 +1269,12 @@ def write_budgets():
         run(b"(push)" + ONE.replace(b"(assert p)", QUANTIFIED) + between + REASON, variables=1, known=numbered(spent("variables"), spent("variables")))
     note("\nA script's own limit of conflicts: the lesser of it and the budget, 0 for none, as it was set last.")
     limit = b"(set-option :reproducible-resource-limit %d)"
-    run(limit % 1 + LONGER + REASON, known=numbered(spent("conflicts")))
-    run(limit % 0 + LONGER)
-    run(limit % 1000 + LONGER + REASON, conflicts=1, known=numbered(spent("conflicts")))
-    run(limit % 2**70 + LONGER)
-    run(LONGER.replace(b"(check-sat)", b"(check-sat)" + limit % 1 + b"(check-sat)" + REASON + limit % 0 + b"(check-sat)" + limit % 2**128 + b"(check-sat)"), known={2: spent("conflicts")})
-    run(limit % 1 + b"(get-option :reproducible-resource-limit)(reset)(get-option :reproducible-resource-limit)" + LONGER)
+    run(limit % 1 + TWICE + REASON, known=numbered(spent("conflicts")))
+    run(limit % 0 + TWICE)
+    run(limit % 1000 + TWICE + REASON, conflicts=1, known=numbered(spent("conflicts")))
+    run(limit % 2**70 + TWICE)
+    run(TWICE.replace(b"(check-sat)", b"(check-sat)" + limit % 1 + b"(check-sat)" + REASON + limit % 0 + b"(check-sat)" + limit % 2**128 + b"(check-sat)"), known={2: spent("conflicts")})
+    run(limit % 1 + b"(get-option :reproducible-resource-limit)(reset)(get-option :reproducible-resource-limit)" + TWICE)
     note("\nWhat the last check was charged for: nothing before a check, and behind a reset.")
     run(b"(get-info :all-statistics)(check-sat)")
     run(b"(check-sat)(assert false)(reset)(get-info :all-statistics)(check-sat)")
@@ -1288,8 +1288,8 @@ def write_budgets():
     run(SHIFTED + REASON, conflicts=8, known=numbered(spent("conflicts")))
     run(SHIFTED + REASON, instances=1, known=numbered(spent("instances")))
     run(ONE + STATISTICS, variables=1, known=numbered(Known("unknown", spent="variables", counts=(0, 0, 0))))
-    note("\nBudgets from 1 on: what is said, where it differs from the budget before. One is spent in a query, in the tree or in the final list.", SERIES)
-    for kind, most, text, answer in [("conflicts", 4, LONGER, UNSAT), ("instances", 4, BOTH, UNSAT), ("variables", 8, BOTH, UNSAT), ("variables", 8, ONE, SAT),
+    note("\nBudgets from 1 on: what is said, where it differs from the budget before. One is spent in a query or in the tree.", SERIES)
+    for kind, most, text, answer in [("conflicts", 4, TWICE, UNSAT), ("instances", 4, BOTH, UNSAT), ("variables", 8, BOTH, UNSAT), ("variables", 8, ONE, SAT),
                                      ("conflicts", 60, pigeons(4, 3), UNSAT), ("instances", 16, greatest(3), SAT), ("instances", 16, below_zero(3), UNSAT),
                                      ("instances", 16, three_levels(2), SAT), ("variables", 64, greatest(3), SAT), ("variables", 64, below_zero(3), UNSAT),
                                      ("variables", 64, three_levels(2), SAT), ("conflicts", 8, three_levels(2), SAT)]:
