@@ -1162,7 +1162,7 @@ def write_objects():
 
 STATISTICS = b"(get-info :all-statistics)"
 ODD = b"(declare-const q (_ BitVec 3))(assert (= (bvadd q q) (_ bv5 3)))(check-sat)"
-SHIFTED = b"(declare-const p (_ BitVec 3))(assert (not (= (bvadd p (_ bv1 3)) (bvsub p (_ bv7 3)))))(check-sat)"
+EXCLUSIVE = b"(declare-const p (_ BitVec 3))(declare-const q (_ BitVec 3))(assert (not (= (bvsub (bvor p q) (bvand p q)) (bvxor p q))))(check-sat)"
 SAT, UNSAT = Known("sat"), Known("unsat")
 REASON = b"(get-info :reason-unknown)"
 
@@ -1236,7 +1236,7 @@ def write_worked():
     run(b"(assert (and (= (bvsdiv #xfb #x03) #xff) (= (bvsrem #xfb #x03) #xfe) (= (bvsmod #xfb #x03) #x01) (= (bvsmod #x05 #xfd) #xff)))(check-sat)")
     run(b"(get-unsat-core)")
     run(SUCCESSOR, known=numbered(UNSAT))
-    run(SUCCESSOR, variables=100, known=numbered(spent("variables")))
+    run(SUCCESSOR, variables=100, known=numbered(UNSAT))
     note("\nPlaces up to the limit on prefixes, and one more.")
     for count in (4096, 4097):
         made = b"".join(b"(declare-const a%d Bool)(assert a%d)" % (n, n) for n in range(count)) + b"(check-sat)"
@@ -1282,11 +1282,11 @@ def write_budgets():
     note("\nBehind a check: with one conflict or instance less its budget is spent, and the variables are those of the clauses that its section "
          "refutes,\nby the reference of the certificates. An unknown section refutes none.")
     run(b"(check-sat)" + STATISTICS + b"(assert false)" + STATISTICS + b"(check-sat)" + STATISTICS, known=numbered(Known("sat", counts=(1, 0, 1)), Known("unsat", counts=(1, 0, 1))))
-    run(ODD + STATISTICS, known=numbered(Known("unsat", counts=(1, 2, 18))))
-    run(SHIFTED + STATISTICS, known=numbered(Known("unsat", counts=(9, 2, 27))))
-    run(SHIFTED + STATISTICS, conflicts=9, instances=2, known=numbered(Known("unsat", counts=(9, 2, 27))))
-    run(SHIFTED + REASON, conflicts=8, known=numbered(spent("conflicts")))
-    run(SHIFTED + REASON, instances=1, known=numbered(spent("instances")))
+    run(ODD + STATISTICS, known=numbered(Known("unsat", counts=(1, 2, 1))))
+    run(EXCLUSIVE + STATISTICS, known=numbered(Known("unsat", counts=(16, 3, 30))))
+    run(EXCLUSIVE + STATISTICS, conflicts=16, instances=3, known=numbered(Known("unsat", counts=(16, 3, 30))))
+    run(EXCLUSIVE + REASON, conflicts=15, known=numbered(spent("conflicts")))
+    run(EXCLUSIVE + REASON, instances=2, known=numbered(spent("instances")))
     run(ONE + STATISTICS, variables=1, known=numbered(Known("unknown", spent="variables", counts=(0, 0, 0))))
     note("\nBudgets from 1 on: what is said, where it differs from the budget before. One is spent in a query or in the tree.", SERIES)
     for kind, most, text, answer in [("conflicts", 4, TWICE, UNSAT), ("instances", 4, BOTH, UNSAT), ("variables", 8, BOTH, UNSAT), ("variables", 8, ONE, SAT),
@@ -1522,7 +1522,7 @@ def write_cores():
     run(clash + core)
     run(b"(declare-const a Bool)(assert (! a :named p))" + check + core)
     run(b"(declare-const a Bool)(assert a)(check-sat-assuming ((not a)))(check-sat-assuming (a))" + core)
-    run(SUCCESSOR.replace(b"(exit)", core), variables=100, known=numbered(spent("variables")))
+    run(SUCCESSOR.replace(b"bvadd", b"bvor").replace(b"(exit)", core), variables=100, known=numbered(spent("variables")))
     run(clash + check + b"(get-unsat-core p)")
     run(clash + check + b"(get-unsat-core ())")
 
@@ -1559,7 +1559,7 @@ def write_assumed():
     run(b"(assert false)" + check + core + failed)
     run(clash + b"(assert (not a))" + check + core + failed)
     run(b"(declare-const a Bool)(assert a)(check-sat-assuming (a))" + failed)
-    run(SUCCESSOR.replace(b"(check-sat)", b"(check-sat-assuming (true))").replace(b"(exit)", failed), variables=100, known=numbered(spent("variables")))
+    run(SUCCESSOR.replace(b"bvadd", b"bvor").replace(b"(check-sat)", b"(check-sat-assuming (true))").replace(b"(exit)", failed), variables=100, known=numbered(spent("variables")))
     run(clash + b"(get-unsat-assumptions a)")
     run(clash + b"(get-unsat-assumptions ())")
 
