@@ -13,7 +13,7 @@ Terms are written with the arguments before their operator, and `dup` is the las
 """
 
 from circuit_cases import FALSE, TRUE, Circuit, TooMany, checksum, operators, place, width, WIDTHS, BOOLS
-from rows import write_rows
+from rows import write_part
 
 MOST = 2**30
 ARITY = {"not": 1, "bvnot": 1, "bvneg": 1, "bvnego": 1, "extract": 1, "repeat": 1, "zero_extend": 1, "sign_extend": 1,
@@ -258,4 +258,4 @@ def cases():
 
 
 if __name__ == "__main__":
-    write_rows("qv_blast_cases", cases())
+    write_part("qv_blast_cases", "clause lists of formulas", cases())

@@ -1,5 +1,5 @@
 #!/usr/bin/env python3
-"""Writes the cases of qv_shell_args_cases and what must come of them, from the rules of the command line:
+"""Writes the cases of qv_shell_cases and what must come of them, from the rules of the command line:
 the first word names a command, and the rest is read as clap reads it; or it asks for help or the
 version, whatever stands behind it; or, where it doesn't begin with `-`, it is a script that is solved
 without a certificate: the words are those of `solve` with it and `-` in front. A word that begins with `--`
@@ -9,7 +9,7 @@ word too many, an unknown option, an option twice and an option without a value 
 Numbers are decimal digits with a value in their range. `qsolve` has the options of `solve` without `--check`
 and `--verbose`, commands that check have `--places`, and the third file of `trim` isn't `-`."""
 import random
-from rows import write_rows
+from rows import write_part
 
 BUDGETS = {"conflicts": (1000000, 2**60 - 1), "instances": (10000, 2**60 - 1), "variables": (4000000, 2**30)}
 LIMITS = {**BUDGETS, "places": (4096, 1000000)}
@@ -251,4 +251,4 @@ def rows():
 
 
 if __name__ == "__main__":
-    write_rows("qv_shell_args_cases", list(rows()))
+    write_part("qv_shell_cases", "command lines", rows(), "call")

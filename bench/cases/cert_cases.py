@@ -1,5 +1,5 @@
 #!/usr/bin/env python3
-"""Writes the cases of qv_cert_cases, and what must come of each: `cert_cases.py` writes crates/qv_cert_cases/stdin and
+"""Writes the cases of qv_check_cases, and what must come of each: `cert_cases.py` writes crates/qv_check_cases/stdin and
 stdout. The answers are computed here from the grammar of certificates, and not by the program.
 
 Outside a refutation a line is one of OUTER below, in it a line of an LRAT proof or `end`. Words have spaces, tabs or CR
@@ -9,7 +9,7 @@ operator's index. A reader takes the lines of a source, each with its LF, of whi
 import random
 import re
 
-from rows import blanks, quoted, words_of, write_rows, written
+from rows import blanks, quoted, words_of, write_part, written
 
 SMALL, LARGE = 2**62, 2**128
 
@@ -30,7 +30,7 @@ bvsdivo:BvSdivo""".split():
 RULES = {b"fold": "Fold", b"same": "Same", b"not-not": "NotNot", b"unit": "Unit", b"absorb": "Absorb",
          b"ite-known": "IteKnown", b"ite-same": "IteSame", b"add-zero": "AddZero", b"mul-one": "MulOne",
          b"mul-zero": "MulZero"}
-PASSES = {name: f"By({variant})" for name, variant in RULES.items()} | {b"sum": "Sum"}
+PASSES = {name: f"By({variant})" for name, variant in RULES.items()} | {b"sum": "Sum", b"xor": "Xor", b"simp": "Simp"}
 
 
 # ---- the grammar
@@ -253,7 +253,7 @@ def large_read(give, count, pieces):
 
 # ---- lines by hand
 
-note("Cases of qv_cert_cases, written by bench/cases/cert_cases.py. Bytes that are no printable ASCII are \\t, \\n, \\r or \\x")
+note("Lines of certificates, written by bench/cases/cert_cases.py. Bytes that are no printable ASCII are \\t, \\n, \\r or \\x")
 note("with two hexadecimal digits.")
 note()
 note("outer LINE, inner LINE: the line that is read, outside a refutation and in it, and what is printed for it; or its fault.")
@@ -336,9 +336,11 @@ for text in [b"n 1 o bvfoo : 1", b"n 1 o Not : 1", b"n 1 o no : 1", b"n 1 o nott
     one(text)
 note("rules")
 for word in list(PASSES) + [b"melt", b"Fold", b"fol", b"folds", b"not_not", b"notnot", b"unit ", b"add-one", b"mul", b"", b"1",
-                            b"fold same", b"\xff", b"fold\n", b"w", b"su", b"summ", b"sums", b"Sum", b"sum\n", b"sum fold"]:
+                            b"fold same", b"\xff", b"fold\n", b"w", b"su", b"summ", b"sums", b"Sum", b"sum\n", b"sum fold", b"xo", b"xors", b"sim", b"simps"]:
     one(b"w " + word)
 both(b"w sum")
+both(b"w xor")
+both(b"w simp")
 
 # ---- prefixes, and each byte changed
 
@@ -455,4 +457,4 @@ for text in ["", "outer", "inner", "reader", "reader 0 - 1 x", "reader x - 1 x",
 
 
 if __name__ == "__main__":
-    write_rows("qv_cert_cases", cases)
+    write_part("qv_check_cases", "lines of certificates", cases)

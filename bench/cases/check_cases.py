@@ -4,7 +4,7 @@ asserted formulas.
 
 The verdicts are computed here from the rules of certificates and not by the program: lines by the grammar of
 bench/cases/cert_cases.py, problems by bench/cases/prenex_cases.py, passes by bench/cases/rewrite_cases.py and
-bench/cases/sum_cases.py, clause lists by bench/cases/blast_cases.py and refutations by bench/cases/clause_cases.py. Accepted sections are made by brute force over the values of small problems, and
+bench/cases/sum_cases.py, xor_cases.py and simp_cases.py, clause lists by bench/cases/blast_cases.py and refutations by bench/cases/clause_cases.py. Accepted sections are made by brute force over the values of small problems, and
 refutations by cases; others are these with something changed.
 
 `check NUMBER GIVE TERM;TERM;..|CERT` reads line 1 and then a section for the formulas, from a source that gives at most GIVE
@@ -21,8 +21,10 @@ from clause_cases import Checker
 from circuit_cases import TooMany
 from prenex_cases import CONSTANTS, LEVELS, LIMIT, holds, problem, value
 from rewrite_cases import RULES, passed
-from rows import shown, write_rows
+from rows import shown, write_part
+from simp_cases import simped
 from sum_cases import summed
+from xor_cases import xored
 from tree_cases import app, bind, is_named, leaf, named, put_in, show, sort_of
 from word_cases import rank
 
@@ -66,7 +68,8 @@ def from_passes(t):
 def behind(name, formulas):
     """The formulas behind the pass of this name."""
     rule = "".join(part.capitalize() for part in name.split("-"))
-    return [from_passes(summed(to_passes(t)) if name == "sum" else passed(rule, to_passes(t))) for t in formulas]
+    by = {"sum": summed, "xor": xored, "simp": simped}.get(name, lambda t: passed(rule, t))
+    return [from_passes(by(to_passes(t))) for t in formulas]
 
 
 def clauses_of(formulas):
@@ -600,6 +603,10 @@ GREATEST = [bind("Ex", 0, 2, bind("All", 1, 2, app("bvuge", X, Y)))]
 SMALLEST = "qbv-cert 1\ncheck 1 sat\nlrat\n3 0 1 2 0\nend\n"
 SUCCESSOR = [bind("All", 0, 2, bind("Ex", 1, 2, app("=", Y, app("bvadd", X, leaf("2:1")))))]
 DISTRIBUTED = [bind("All", 0, 2, bind("All", 1, 2, app("=", app("bvmul", X, app("bvadd", X, Y)), app("bvadd", app("bvmul", Y, X), app("bvmul", X, X)))))]
+TURNED = [bind("All", 0, 1, bind("All", 1, 1, app("=", app("bvxor", leaf("v0:1"), leaf("v1:1")), app("bvxor", leaf("v1:1"), leaf("v0:1")))))]
+OPPOSITE = [bind("Ex", 0, 1, app("=", leaf("v0:1"), app("bvnot", leaf("v0:1"))))]
+BOUNDED = [bind("All", 0, 2, app("and", app("bvule", X, leaf("2:3")), app("=", app("bvor", X, leaf("2:0")), app("bvand", leaf("2:3"), X))))]
+SHIFTED = [bind("Ex", 0, 2, app("not", app("=", app("bvshl", X, leaf("2:2")), app("bvurem", X, leaf("2:1")))))]
 ODD = [bind("Ex", 0, 2, app("=", app("bvadd", app("bvmul", X, leaf("2:2")), leaf("2:1")), leaf("2:0")))]
 
 
@@ -658,6 +665,20 @@ def by_hand():
         for lines in ["w sum\n", "", "w fold\n", "w fold\nw sum\nw same\n"]:
             row(formulas, f"qbv-cert 2\n{begin}{lines}lrat\n3 0 1 2 0\nend\n")
         row(formulas, f"qbv-cert 1\n{begin}w sum\nlrat\n3 0 1 2 0\nend\n")
+    note("The pass of exclusive or.")
+    for name in ["xor", "xo", "xors"]:
+        row([], f"qbv-cert 2\ncheck 1 sat\nw {name}\nlrat\n3 0 1 2 0\nend\n")
+    for formulas, begin in [(TURNED, "check 1 sat\n"), (OPPOSITE, "check 1 unsat\ne 1 0\n"), (ODD, "check 1 unsat\ne 1 0\n")]:
+        for lines in ["w xor\n", "", "w sum\n", "w fold\nw xor\nw same\n"]:
+            row(formulas, f"qbv-cert 2\n{begin}{lines}lrat\n3 0 1 2 0\nend\n")
+        row(formulas, f"qbv-cert 1\n{begin}w xor\nlrat\n3 0 1 2 0\nend\n")
+    note("The pass of small rules.")
+    for name in ["simp", "sim", "simps"]:
+        row([], f"qbv-cert 2\ncheck 1 sat\nw {name}\nlrat\n3 0 1 2 0\nend\n")
+    for formulas, begin in [(BOUNDED, "check 1 sat\n"), (SHIFTED, "check 1 unsat\ne 1 0\n"), (OPPOSITE, "check 1 unsat\ne 1 0\n"), (ODD, "check 1 unsat\ne 1 0\n")]:
+        for lines in ["w simp\n", "", "w xor\n", "w simp\nw fold\n", "w fold\nw unit\nw same\n"]:
+            row(formulas, f"qbv-cert 2\n{begin}{lines}lrat\n3 0 1 2 0\nend\n")
+        row(formulas, f"qbv-cert 1\n{begin}w simp\nlrat\n3 0 1 2 0\nend\n")
     note("An unknown section.")
     for cert in ["qbv-cert 1\ncheck 1 unknown\nend\n", "qbv-cert 2\ncheck 1 unknown\nlrat\nend\n", "qbv-cert 1\ncheck 1 unknown\nn 1 c 2 0\nend\n",
                  "qbv-cert 2\ncheck 1 unknown\nw melt\nend\n", "qbv-cert 2\ncheck 1 unknown\nw fold\nend\n", "qbv-cert 1\ncheck 2 unknown\nend\n",
@@ -762,5 +783,5 @@ def cases():
 
 if __name__ == "__main__":
     cases()
-    write_rows("qv_check_cases", ROWS)
+    write_part("qv_check_cases", "sections", ROWS)
     print(f"{len(ROWS)} rows")

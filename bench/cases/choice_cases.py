@@ -12,7 +12,7 @@ import random
 import sys
 
 from rewrite_cases import literal, show, sort_of, value_of
-from rows import write_rows
+from rows import write_part
 from term_cases import inverse
 from word_cases import evaluate, read
 
@@ -562,7 +562,7 @@ def main():
     cases(chosen)
     conjoined(random.Random(17))
     defined(random.Random(37))
-    write_rows("qv_choose_cases", LINES)
+    write_part("qv_choose_cases", "choices", LINES)
     told = [line.split()[0] for line, answer in LINES if answer not in [None, "bad case"]]
     print(f"{told.count('choose')} regions, {told.count('candidates')} places, {len(LINES)} lines")
 

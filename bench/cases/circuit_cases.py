@@ -1,6 +1,6 @@
 #!/usr/bin/env python3
-"""Writes the cases of qv_circuits_cases, and what must come of each: `circuit_cases.py` writes
-crates/qv_circuits_cases/stdin and stdout. The clauses are computed here from the table of gates, the table of routines and
+"""Writes the cases of qv_blast_cases, and what must come of each: `circuit_cases.py` writes
+crates/qv_blast_cases/stdin and stdout. The clauses are computed here from the table of gates, the table of routines and
 the table of operators, written down as they are, and not by the program.
 
 `circuit OPERATOR SORTS` is the circuit of an operator at new variables from 2 on, in a list that has the clause 1 alone.
@@ -12,7 +12,7 @@ literals, whose first new variable is NEXT; where they are constants, each assig
 here to give the operator's value, as bench/cases/word_cases.py has it.
 """
 
-from rows import write_rows
+from rows import write_part
 from word_cases import apply
 
 FALSE = -1
@@ -465,4 +465,4 @@ def cases():
 
 
 if __name__ == "__main__":
-    write_rows("qv_circuits_cases", cases())
+    write_part("qv_blast_cases", "circuits", cases())

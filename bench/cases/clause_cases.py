@@ -1,6 +1,5 @@
 #!/usr/bin/env python3
-"""Writes stdin and stdout of three drivers: qv_rup_cases (literals, clause lists, refutations), qv_watch_cases and
-qv_sat_cases.
+"""Writes stdin and stdout of two drivers: qv_watch_cases (literals, clause lists, refutations; trails) and qv_sat_cases.
 
     clause_cases.py
 
@@ -14,7 +13,7 @@ import subprocess
 import tempfile
 
 from rat import judge, judge_rup, rat_hints
-from rows import write_rows
+from rows import write_part
 
 GREATEST = 2**30
 ROUNDS = random.Random(20261127)
@@ -1186,24 +1185,28 @@ def instances():
         CoreRows(three_sat(70, seed), f"Random clauses over 70 variables, from seed {seed}: clauses are deleted on the way.").ask(limit=100000)
 
 
-# Each driver, and the parts of its rows. The parts of a driver follow one another, since they share the random numbers.
+# Each driver, and what writes the rows of its parts, one behind the other, since they share the random numbers.
 DRIVERS = {
-    "qv_rup_cases": (clause_heading, literals, lists, checks),
-    "qv_watch_cases": (trail_heading, trails),
-    "qv_sat_cases": (core_heading, counters, core_tables, sessions, instances),
+    "qv_watch_cases": {"literals, clause lists and refutations": (clause_heading, literals, lists, checks), "trails": (trail_heading, trails)},
+    "qv_sat_cases": {"cores": (core_heading, counters, core_tables, sessions, instances)},
 }
+
+
+def write(driver, part, writers):
+    LINES.clear()
+    ANSWERS.clear()
+    for writer in writers:
+        writer()
+    write_part(driver, part, zip(LINES, ANSWERS))
+    cases = sum(1 for line in LINES if line and not line.startswith("#"))
+    print(f"{driver}, {part}: {cases} cases on {len(LINES)} lines")
 
 
 def main():
     for driver, parts in DRIVERS.items():
-        LINES.clear()
-        ANSWERS.clear()
         ROUNDS.seed(20261127)
-        for part in parts:
-            part()
-        write_rows(driver, zip(LINES, ANSWERS))
-        cases = sum(1 for line in LINES if line and not line.startswith("#"))
-        print(f"{driver}: {cases} cases on {len(LINES)} lines")
+        for part, writers in parts.items():
+            write(driver, part, writers)
 
 
 if __name__ == "__main__":

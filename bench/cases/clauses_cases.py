@@ -17,7 +17,7 @@ import verdict_cases
 from chance_scripts import random_script
 from check_cases import RANDOM, Section
 from prenex_cases import problem
-from rows import quoted, write_rows, written
+from rows import quoted, write_part, written
 from verdict_cases import HEAD, SAT, SIBLINGS, UNKNOWN, UNSAT, Lines, Refused, certificate, kind_word, sections
 
 ROWS = []
@@ -128,7 +128,7 @@ def main():
     by_hand()
     by_chance(60, 2)
     bad()
-    write_rows("qv_check_trim_cases", [*trim_cases.rows(), ("", None), *ROWS])
+    write_part("qv_check_trim_cases", "sections trimmed, and certificates beside their scripts", [*trim_cases.rows(), ("", None), *ROWS])
 
 
 if __name__ == "__main__":

@@ -1,5 +1,5 @@
 #!/usr/bin/env python3
-"""Writes the cases of qv_dimacs_cases, and what must come of each: `cnf_cases.py` writes crates/qv_dimacs_cases/stdin and
+"""Writes the cases of qv_qdimacs_cases, and what must come of each: `cnf_cases.py` writes crates/qv_qdimacs_cases/stdin and
 stdout. The answers are computed here from the rules of the text, and not by the program.
 
 A line that is empty or has white space alone, and one whose first byte other than white space is `c`, is a comment. The
@@ -13,7 +13,7 @@ or the word `%`, so no call is made behind the piece with that byte.
 import random
 import re
 
-from rows import write_rows, written
+from rows import write_part, written
 
 WHITE = b"\t\r \n"
 PIECE = 4096
@@ -189,7 +189,7 @@ def main():
              large([(1, head), (100000, b"1 "), (1, b"0")]), large([(1, head), (100000, b"1 ")]), large([(100000, b"c\n")]), large([(100000, b"\n"), (1, head)]),
              large([(1, b"p"), (100000, b" "), (1, b"cnf"), (100000, b" "), (1, b"1 1\n0")]), large([(100000, b"p")]), large([(1, b"c"), (100000, b"p cnf ")]),
              large([(1, head), (3000, b"1 0\r\n"), (1, b"%"), (5000, b"1 0 ")])]
-    write_rows("qv_dimacs_cases", rows)
+    write_part("qv_qdimacs_cases", "texts in the DIMACS format", rows, "dimacs")
 
 
 if __name__ == "__main__":

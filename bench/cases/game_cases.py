@@ -1,5 +1,5 @@
 #!/usr/bin/env python3
-"""Writes the cases of crates/qv_game_cases (stdin) and what must come (stdout).
+"""Writes the cases of crates/qv_solve_cases (stdin) and what must come (stdout).
 
     bench/cases/game_cases.py PROGRAM
 
@@ -22,7 +22,7 @@ from game_entries import LIMITS, Game, answers, counts, faults, few_points, row
 from game_formulas import (A, B, C, E, FALSE, SORTS, TRUE, below_zero, constants_of, every, factors, greatest, joined_leaves, lit,
                            negation_of, no, pigeons, random_formula, same, some, three_levels, var)
 from prenex_cases import problem, value, values
-from rows import write_rows
+from rows import write_part
 from tree_cases import app, bind
 
 CONFLICTS, INSTANCES, VARIABLES = LIMITS
@@ -326,7 +326,7 @@ def main():
     random_cases(random.Random(31), 240)
     bad_cases()
     games = read_again()
-    write_rows("qv_game_cases", ROWS)
+    write_part("qv_solve_cases", "games", ROWS, "game")
     print(f"{sum(answer is not None for _, answer in ROWS)} cases; the entries of {games} games beside were read again")
 
 

@@ -1,9 +1,9 @@
 #!/usr/bin/env python3
-"""Reads each entry of games again, as the program of qv_game_cases prints them, and tries its conditions at all points.
+"""Reads each entry of games again, as the program of qv_solve_cases prints them, and tries its conditions at all points.
 
     bench/cases/game_entries.py PROGRAM [COUNT]
 
-The games are COUNT by chance; those of the rows of qv_game_cases are read again where bench/cases/game_cases.py writes them. Of each
+The games are COUNT by chance; those of the rows of qv_solve_cases are read again where bench/cases/game_cases.py writes them. Of each
 entry: its level and links, that its point is one of its region and of no earlier one of its level and winner, that nothing
 comes behind an entry of level 1, and behind one whose winner doesn't own its block only one that is linked to it alone. Where
 the winner owns the block: that the terms are over the places before it, and the region has the value of the later one with the
@@ -207,7 +207,7 @@ def row(command, limits, formulas):
 
 def answers(program, lines):
     """What the program answers to rows."""
-    asked = "".join(line + "\n" for line in lines)
+    asked = "".join(f"game {line}\n" for line in lines)
     told = subprocess.run([program], input=asked, capture_output=True, text=True, check=True).stdout.splitlines()
     return dict(zip(lines, told, strict=True))
 

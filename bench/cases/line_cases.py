@@ -1,5 +1,5 @@
 #!/usr/bin/env python3
-"""Writes the cases of qv_lrat_text_cases, and what must come of each: `line_cases.py` writes crates/qv_lrat_text_cases/stdin and
+"""Writes the cases of qv_qdimacs_cases, and what must come of each: `line_cases.py` writes crates/qv_qdimacs_cases/stdin and
 stdout. The answers are computed here from the grammar of LRAT lines, and not by the program.
 
 A line is `ID LITERALS 0 HINTS 0` or `ID d IDS 0`, with or without an LF at its end. Words have spaces, tabs or CR
@@ -12,7 +12,7 @@ import random
 import re
 
 from lrat_lines import GREATEST_ID, GREATEST_VARIABLE, number, step
-from rows import blanks, quoted, write_rows, written
+from rows import blanks, quoted, write_part, written
 
 
 def spelling(found):
@@ -93,7 +93,7 @@ def push(word, value):
 
 # ---- lines by hand
 
-note("Cases of qv_lrat_text_cases, written by bench/cases/line_cases.py. Bytes that are no printable ASCII are \\t, \\n, \\r or \\x")
+note("Lines of proofs, written by bench/cases/line_cases.py. Bytes that are no printable ASCII are \\t, \\n, \\r or \\x")
 note("with two hexadecimal digits.")
 note()
 note("line LINE: the step that is read, and the line that is printed for it; or form.")
@@ -254,4 +254,4 @@ for text in ["none", "line \\", "line \\q", "line \\x4", "line \\xzz", "add 5 1"
              "changes", "changes x 1 0 0"]:
     case(text, "bad case")
 
-write_rows("qv_lrat_text_cases", cases)
+write_part("qv_qdimacs_cases", "lines of proofs", cases, "lrat")

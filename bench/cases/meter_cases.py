@@ -1,9 +1,9 @@
 #!/usr/bin/env python3
-"""Writes stdin and stdout of qv_meter_cases. Answers come from the reference below, which follows the definitions of records.
+"""Writes stdin and stdout of qv_solve_cases. Answers come from the reference below, which follows the definitions of records.
 
     meter_cases.py
 """
-from rows import write_rows
+from rows import write_part
 
 ROWS = []
 GREATEST = (2**60 - 1, 2**60 - 1, 2**30)
@@ -88,7 +88,7 @@ def main():
     for line in ("", "lane 1 1 1", "start", "start 1 1", "start 1 1 1 1", "start x 1 1", "start 1 1 4294967296"):
         if line:
             ROWS.append((line, "bad case"))
-    write_rows("qv_meter_cases", ROWS)
+    write_part("qv_solve_cases", "calls of a meter", ROWS, "meter")
 
 
 if __name__ == "__main__":

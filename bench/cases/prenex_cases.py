@@ -1,5 +1,5 @@
 #!/usr/bin/env python3
-"""Writes the cases of crates/qv_prenex_cases (stdin) and what must come (stdout).
+"""Writes the cases of crates/qv_rewrite_cases (stdin) and what must come (stdout).
 
     bench/cases/prenex_cases.py             writes both files
     bench/cases/prenex_cases.py --check     compares the truth of problems with that of the formulas, for
@@ -14,12 +14,11 @@ import random
 import sys
 import threading
 from itertools import product
-from pathlib import Path
 
+from rows import write_part
 from tree_cases import app, bind, is_binder, is_named, is_quantified, leaf, named, show, sort_of
 from word_cases import apply
 
-HERE = Path(__file__).resolve().parents[2] / "crates" / "qv_prenex_cases"
 LIMIT = 4096
 
 # the sorts of the constants and of the levels, which stay the same throughout
@@ -454,10 +453,21 @@ def large_cases():
     LINES.append((f"count /{choices} 8:0 =", "prefix limit"))
 
 
+def limit_cases():
+    note("other limits: none at all, one place and two, constants and quantifiers")
+    two, both, doubled = "c0:bool c1:bool and", "c0:bool v0:bool All:0:bool and", "v0:bool Ex:0:bool dup ="
+    for limit, case, text in [(0, "bool/bool:1", "0 0"), (0, "bool/c0:bool", None), (1, "bool/c0:bool", "1 1"), (1, f"bool bool/{two}", None),
+                              (2, f"bool bool/{two}", "2 1"), (0, "/v0:bool Ex:0:bool", None), (1, "/v0:bool Ex:0:bool", "1 1"),
+                              (1, f"bool/{both}", None), (2, f"bool/{both}", "2 2"), (3, f"bool/{doubled}", None),
+                              (4, f"bool/{doubled}", "4 2"), (2**32 - 1, f"bool/{both}", "2 2")]:
+        LINES.append((f"within {limit} {case}", text or "prefix limit"))
+
+
 def bad_cases():
     note("these aren't cases: no formula, a free variable, a constant of another sort or without one")
     for line in ["prenex /v0:bool", "prenex bool/c0:3 c0:3 =", "prenex /c0:bool", "prenex /3:1", "prenex /v0:bool All:1:bool",
-                 "prenex", "pose /bool:1", "count bool:1", "prenex /bool:1 bool:1", "prenex bool/c0:bool All:0:bool;c1:bool"]:
+                 "prenex", "pose /bool:1", "count bool:1", "prenex /bool:1 bool:1", "prenex bool/c0:bool All:0:bool;c1:bool",
+                 "within 4294967296 bool/c0:bool", "within x bool/c0:bool"]:
         LINES.append((line, "bad case"))
 
 
@@ -475,9 +485,9 @@ def main():
             print(line_of(fs))
         return
     large_cases()
+    limit_cases()
     bad_cases()
-    HERE.joinpath("stdin").write_text("".join(f"{line}\n" for line, _ in LINES))
-    HERE.joinpath("stdout").write_text("".join(f"{line if text is None else text}\n" for line, text in LINES))
+    write_part("qv_rewrite_cases", "prenex problems", LINES)
     print(f"{len(POSED)} problems, {len(LINES)} lines")
 
 

@@ -1,10 +1,10 @@
 #!/usr/bin/env python3
-"""Writes the cases of qv_script_values_cases and what must come of them, from the rules of the language:
+"""Writes the cases of qv_sexpr_cases and what must come of them, from the rules of the language:
 a value of width w has the digits of `#x` where 4 divides w, and otherwise of `#b`; a symbol stands
 between bars where it is no simple symbol or is reserved."""
 import random
 import re
-from rows import write_rows
+from rows import write_part
 
 SIMPLE = re.compile(r"[A-Za-z~!@$%^&*_\-+=<>.?/][A-Za-z0-9~!@$%^&*_\-+=<>.?/]*", re.A)
 RESERVED = "! _ as exists forall lambda let match par".split()
@@ -71,4 +71,4 @@ def rows():
 
 
 if __name__ == "__main__":
-    write_rows("qv_script_values_cases", list(rows()))
+    write_part("qv_sexpr_cases", "values, sorts and symbols as text", rows(), "print")

@@ -1,5 +1,5 @@
 #!/usr/bin/env python3
-"""Writes the cases of qv_lrat_cases, and what must come of each: `proof_cases.py` writes crates/qv_lrat_cases/stdin and stdout. A
+"""Writes the cases of qv_check_trim_cases, and what must come of each: `proof_cases.py` writes crates/qv_check_trim_cases/stdin and stdout. A
 case is a CNF text and an LRAT proof; the answers come from the reference below, which is written from the rules and not from the
 program, as are bench/rat.py, bench/lrat_lines.py and bench/cnf_cases.py.
 """
@@ -9,7 +9,7 @@ import random
 from cnf_cases import said
 from lrat_lines import step
 from rat import judge, propagated, rat_hints
-from rows import write_rows, written
+from rows import write_part, written
 
 CHANCE = random.Random(20261129)
 ROWS = []
@@ -306,4 +306,4 @@ if __name__ == "__main__":
     by_hand()
     systematic()
     all_by_chance()
-    write_rows("qv_lrat_cases", ROWS)
+    write_part("qv_check_trim_cases", "proofs beside CNF texts", ROWS)

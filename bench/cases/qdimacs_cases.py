@@ -19,7 +19,7 @@ import random
 import sys
 
 from cnf_cases import is_numeral, literal, words_at
-from rows import write_rows, written
+from rows import write_part, written
 
 
 def outer_of(prefix, clauses):
@@ -238,7 +238,7 @@ def main():
              ("formula a1/1073741825 0", "bad case"), ("form a1/1 0", "bad case"), ("text 0 - x", "bad case"), ("text x", "bad case")]
     rows.append(("# Texts: text GIVE FAILS TEXT, of a source that gives at most GIVE bytes a call and fails at the calls FAILS.", None))
     rows += text_rows(chance)
-    write_rows("qv_qdimacs_cases", rows)
+    write_part("qv_qdimacs_cases", "quantified formulas", rows)
 
 
 if __name__ == "__main__":

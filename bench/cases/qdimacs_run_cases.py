@@ -1,5 +1,5 @@
 #!/usr/bin/env python3
-"""Writes the cases of crates/qv_shell_qdimacs_cases (stdin) and what must come (stdout).
+"""Writes the cases of crates/qv_shell_cases (stdin) and what must come (stdout).
 
     bench/cases/qdimacs_run_cases.py PROGRAM
 
@@ -13,7 +13,7 @@ import subprocess
 import sys
 
 from qdimacs_cases import chance_file, chance_text, holds, outer_of, said
-from rows import quoted, write_rows
+from rows import quoted, write_part
 
 AMPLE = (1000000, 10000, 4000000)
 
@@ -111,7 +111,8 @@ def main():
     runs.append(("# Within small limits.", None, None))
     runs += [("", text_of(*chance_file(chance)), limits) for limits in ((1, 1, 1), (1, 1, 100), (2, 3, 1000)) for _ in range(20)]
     lines = [note or f"solve {limits[0]} {limits[1]} {limits[2]} {quoted(text)}" for note, text, limits in runs]
-    told = subprocess.run([sys.argv[1]], input="\n".join(lines) + "\n", capture_output=True, text=True, check=True).stdout.splitlines()
+    asked = "".join(f"{line}\n" if line.startswith("#") else f"qdimacs {line}\n" for line in lines)
+    told = subprocess.run([sys.argv[1]], input=asked, capture_output=True, text=True, check=True).stdout.splitlines()
     rows = [("# Written by bench/cases/qdimacs_run_cases.py.", None)]
     for (note, text, limits), line, answer in zip(runs, lines, told):
         rows.append((line, None if note else judged(text, limits, answer)))
@@ -121,7 +122,7 @@ def main():
     rows += [(f"check {quoted(text)} {quoted(cert)}", answer) for text, cert, answer in checks()]
     rows.append(("# Lines that are no cases.", None))
     rows += [("solve 1 1 1 x", "bad case"), ('solve 0 1 1 "x"', "bad case"), ("check", "bad case"), ("run", "bad case")]
-    write_rows("qv_shell_qdimacs_cases", rows)
+    write_part("qv_shell_cases", "files in the QDIMACS format", rows, "qdimacs")
 
 
 if __name__ == "__main__":

@@ -10,11 +10,10 @@ Values are those of bench/cases/word_cases.py. Terms are written with the argume
 """
 import random
 import sys
-from pathlib import Path
 
+from rows import write_part
 from word_cases import apply, evaluate, parts, rank
 
-HERE = Path(__file__).resolve().parents[2] / "crates" / "qv_rewrite_cases"
 
 # --- terms: a leaf is a text, an application is a pair of its operator and its arguments -------------
 
@@ -290,8 +289,8 @@ def cases(chosen):
     x, y, p, q = "v0:8", "v1:8", "v0:bool", "v1:bool"
     note("the passes by their names")
     names = list(map(name_of, RULES))
-    for name in [*names, "sum", "", "su", "sums", "melt", "Fold", "fol", "folds", "not_not", "mul-two", "-"]:
-        LINES.append((f"name {name}", name if name in names or name == "sum" else "none"))
+    for name in [*names, "sum", "xor", "simp", "", "su", "sums", "xo", "xors", "sim", "simps", "melt", "Fold", "fol", "folds", "not_not", "mul-two", "-"]:
+        LINES.append((f"name {name}", name if name in [*names, "sum", "xor", "simp"] else "none"))
     note("each rule, where it fits and where it doesn't")
     chosen_terms = [
         ("=", [x, x]), ("=", [x, y]), ("=", [p, p]), ("not", [("not", [p])]), ("bvnot", [("bvnot", [x])]),
@@ -392,11 +391,11 @@ def main():
     if "--check" in sys.argv:
         check(chosen)
         return
-    from sum_cases import rows
-    LINES.append(("", None))
-    LINES.extend(rows(random.Random(1000)))
-    (HERE / "stdin").write_text("".join(f"{line}\n" for line, _ in LINES))
-    (HERE / "stdout").write_text("".join(f"{line if answer is None else answer}\n" for line, answer in LINES))
+    import simp_cases, sum_cases, xor_cases
+    for others in [sum_cases, xor_cases, simp_cases]:
+        LINES.append(("", None))
+        LINES.extend(others.rows(random.Random(1000)))
+    write_part("qv_rewrite_cases", "passes and simplification", LINES)
     print(f"{len(ASKED)} terms, {len(LINES)} lines")
 
 

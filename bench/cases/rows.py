@@ -14,6 +14,22 @@ def write_rows(driver, rows):
             told.write((line if answer is None else str(answer)) + "\n")
 
 
+def write_part(driver, part, rows, word=""):
+    """Writes one part of the driver's stdin and stdout, which begins with the line `# -- PART` and ends where another does. The word, if
+    there is one, stands in front of each case."""
+    head = f"# -- {part}\n"
+    cases = [(f"{word} {line}" if word and line and line[0] != "#" else line, line if answer is None else str(answer)) for line, answer in rows]
+    for name, lines in zip(("stdin", "stdout"), zip(*cases)):
+        path = os.path.join(CRATES, driver, name)
+        with open(path) as file:
+            parts = re.split(r"^(?=# -- )", file.read(), flags=re.M)
+        own = head + "".join(line + "\n" for line in lines)
+        if not any(other.startswith(head) for other in parts):
+            parts.append(head)
+        with open(path, "w") as file:
+            file.write("".join(own if other.startswith(head) else other for other in parts))
+
+
 def words_of(line):
     """The words between spaces, tabs and CR of a line, which may end with an LF."""
     return [word for word in re.split(rb"[ \t\r]", line[:-1] if line.endswith(b"\n") else line) if word]

@@ -1,5 +1,5 @@
 #!/usr/bin/env python3
-"""Writes the cases of qv_shell_cases and qv_io_cases (stdin) and what must come (stdout).
+"""Writes the cases of qv_shell_cases and qv_sexpr_cases (stdin) and what must come (stdout).
 
 The answers come from what stands below, from bench/cases/scripts.py and from nothing of the program: tokens, commands,
 faults, and sources and sinks that give and take pieces and fail at some of their calls. Checks are answered by trying all
@@ -7,7 +7,7 @@ values; where these are too many, or a budget is spent, the answer is given with
 so a row says how many sections it has and what comes of its check. So does a model: a row of `model` says that what was
 printed before it comes again where its definitions stand in place of the declarations.
 
-usage: bench/cases/run_cases.py     writes stdin and stdout of crates/qv_shell_cases and crates/qv_io_cases
+usage: bench/cases/run_cases.py     writes stdin and stdout of crates/qv_shell_cases and crates/qv_sexpr_cases
 """
 import os
 import random
@@ -20,7 +20,7 @@ import elab_cases
 import scripts
 import word_cases
 from chance_scripts import following_script, random_script
-from rows import write_rows
+from rows import write_part
 from scripts import Known
 
 HERE = os.path.dirname(os.path.abspath(__file__))
@@ -341,7 +341,7 @@ def solve(source, sink, cert=None, known=None):
 
 # the rows of each driver
 RUNS, SERIES, OBJECTS = [], [], []
-ROWS = {"qv_shell_cases": RUNS, "qv_io_cases": OBJECTS}
+PARTS = [("qv_shell_cases", "runs", RUNS, ""), ("qv_sexpr_cases", "sources and sinks", OBJECTS, "io")]
 RUN_COMMANDS, SERIES_COMMANDS = {"run", "std-run", "words"}, {"model", "fronts", "each"}
 
 
@@ -1246,7 +1246,7 @@ def write_worked():
 def write_budgets():
     note("\nBudgets of 1, and the least that do. Where p and its negation are asserted, instances are spent in the tree; four clauses\n"
          "over two constants need two conflicts in a query.")
-    for kind, text in (("conflicts", TWICE), ("instances", BOTH), ("variables", BOTH)):
+    for kind, text in (("conflicts", TWICE), ("instances", BOTH), ("variables", TWICE)):
         run(b"(check-sat)(assert false)(check-sat)", **{kind: 1})
         run(text + REASON, known=numbered(spent(kind)), **{kind: 1})
     run(b"(check-sat)(assert false)(check-sat)", conflicts=1, instances=1, variables=1)
@@ -1289,7 +1289,7 @@ def write_budgets():
     run(EXCLUSIVE + REASON, instances=2, known=numbered(spent("instances")))
     run(ONE + STATISTICS, variables=1, known=numbered(Known("unknown", spent="variables", counts=(0, 0, 0))))
     note("\nBudgets from 1 on: what is said, where it differs from the budget before. One is spent in a query or in the tree.", SERIES)
-    for kind, most, text, answer in [("conflicts", 4, TWICE, UNSAT), ("instances", 4, BOTH, UNSAT), ("variables", 8, BOTH, UNSAT), ("variables", 8, ONE, SAT),
+    for kind, most, text, answer in [("conflicts", 4, TWICE, UNSAT), ("instances", 4, BOTH, UNSAT), ("variables", 24, TWICE, UNSAT), ("variables", 8, ONE, SAT),
                                      ("conflicts", 60, pigeons(4, 3), UNSAT), ("instances", 16, greatest(3), SAT), ("instances", 16, below_zero(3), UNSAT),
                                      ("instances", 16, three_levels(2), SAT), ("variables", 64, greatest(3), SAT), ("variables", 64, below_zero(3), UNSAT),
                                      ("variables", 64, three_levels(2), SAT), ("conflicts", 8, three_levels(2), SAT)]:
@@ -1659,8 +1659,8 @@ def main():
     write_cores()
     write_assumed()
     RUNS.extend(SERIES)
-    for driver, rows in ROWS.items():
-        write_rows(driver, rows)
+    for driver, part, rows, word in PARTS:
+        write_part(driver, part, rows, word)
 
 
 if __name__ == "__main__":

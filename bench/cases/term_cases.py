@@ -1,5 +1,5 @@
 #!/usr/bin/env python3
-"""Writes the cases of crates/qv_inverse_cases (stdin) and what must come (stdout).
+"""Writes the cases of crates/qv_choose_cases (stdin) and what must come (stdout).
 
     bench/cases/term_cases.py            writes both files
     bench/cases/term_cases.py --check    tries each inverse term at widths up to 4 on all values
@@ -11,11 +11,10 @@ bench/cases/word_cases.py.
 import itertools
 import random
 import sys
-from pathlib import Path
 
+from rows import write_part
 from word_cases import LOGIC, NAMES, TESTS, TWO, apply, evaluate, parts, rank, read
 
-HERE = Path(__file__).resolve().parents[2] / "crates" / "qv_inverse_cases"
 ALIKE = ["bvadd", "bvxor", "bvxnor", "bvand", "bvor", "bvnand", "bvnor"]
 SHIFTS = ["bvshl", "bvlshr", "bvashr"]
 
@@ -262,8 +261,7 @@ def main():
     if "--check" in sys.argv:
         check()
         return
-    (HERE / "stdin").write_text("".join(f"{line}\n" for line, _ in LINES))
-    (HERE / "stdout").write_text("".join(f"{line if answer is None else answer}\n" for line, answer in LINES))
+    write_part("qv_choose_cases", "inverse terms and generated scripts", LINES)
     print(f"{len(ASKED)} inverse terms, {len(LINES)} lines")
 
 

@@ -1,12 +1,13 @@
 #!/usr/bin/env python3
-"""Writes the cases of qv_sexpr_cases and what must come of them: text_cases.py STDIN STDOUT.
+"""Writes the cases of qv_sexpr_cases and what must come of them.
 
 A lexer and a reader of its own, by regular expressions, written from the language's description:
 white space is tab, LF, CR and space; a comment goes from `;` to LF or CR; tokens are the longest.
 """
 import random
 import re
-import sys
+
+from rows import write_part
 
 SYMBOL = rb"[A-Za-z~!@$%^&*_\-+=<>.?/][A-Za-z0-9~!@$%^&*_\-+=<>.?/]*"
 RULES = [
@@ -456,9 +457,7 @@ def main():
     note("lines that are no cases")
     for line in ('tokens 0 "a"', "tokens a", 'tokens 1 "a', 'tokens 1 "\\q"', "nothing", 'commands 1 x "a"', 'commands 1 "a"', 'copy "(a)"'):
         case(line, "bad case")
-    for path, lines in zip(sys.argv[1:], (LINES, ANSWERS)):
-        with open(path, "w") as file:
-            file.write("\n".join(lines) + "\n")
+    write_part("qv_sexpr_cases", "tokens and commands", zip(LINES, ANSWERS))
     print(sum(1 for line in LINES if line and not line.startswith("#")), "cases")
 
 

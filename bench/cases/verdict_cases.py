@@ -1,5 +1,5 @@
 #!/usr/bin/env python3
-"""Writes the cases of crates/qv_check_script_cases (stdin) and what must come (stdout): certificates beside their scripts.
+"""Writes the cases of crates/qv_shell_cases (stdin) and what must come (stdout): certificates beside their scripts.
 
 The answers are computed here from the rules and not by the program: scripts are read by bench/cases/run_cases.py and followed by
 bench/cases/scripts.py, sections are judged by bench/cases/check_cases.py, and what is said of both together stands below. Certificates
@@ -19,7 +19,7 @@ from cert_cases import outer
 from check_cases import RANDOM, Section, is_true, sat_cert, spoiled, unsat_cert, values_of
 from chance_scripts import random_script
 from prenex_cases import CONSTANTS, LIMIT, problem
-from rows import shown, write_rows
+from rows import shown, write_part
 
 ROOM = 65536
 
@@ -275,6 +275,13 @@ def by_hand():
     odd = "(declare-fun x () (_ BitVec 2))(assert (= (bvadd (bvmul x #b10) #b01) #b00))(check-sat)"
     for lines in ["w sum\n", "", "w fold\n"]:
         row(odd, f"qbv-cert 2\ncheck 1 unsat\ne 1 0\n{lines}lrat\n3 0 1 2 0\nend\n")
+    note("What the passes of exclusive or and of small rules make false, and others don't.")
+    apart = "(declare-fun p () Bool)(declare-fun q () Bool)(assert (distinct (xor p q) (xor q p)))(check-sat)"
+    for lines in ["w xor\n", "", "w sum\n", "w simp\n"]:
+        row(apart, f"qbv-cert 2\ncheck 1 unsat\ne 1 0\ne 2 1\n{lines}lrat\n3 0 1 2 0\nend\n")
+    below = "(declare-fun x () (_ BitVec 2))(assert (bvult x #b00))(check-sat)"
+    for lines in ["w simp\n", "", "w xor\n"]:
+        row(below, f"qbv-cert 2\ncheck 1 unsat\ne 1 0\n{lines}lrat\n3 0 1 2 0\nend\n")
     note("A prefix that is too long is a fault of the script, and its section isn't read.")
     many = "".join(f"(declare-const a{n} Bool)" for n in range(4))
     doubled = "(forall ((x Bool)) x)"
@@ -336,7 +343,7 @@ def main():
     by_hand()
     by_chance(110, 5)
     bad()
-    write_rows("qv_check_script_cases", ROWS)
+    write_part("qv_shell_cases", "certificates beside their scripts", ROWS)
     print(f"{len(ROWS)} rows, statuses {dict(sorted(COUNTS.items()))}")
 
 

@@ -5,13 +5,13 @@
 #
 #     bench/measure/certificate.sh
 set -eu
-cd "$(dirname "$0")/../../crates/qv_cert_cases"
+cd "$(dirname "$0")/../../crates/qv_check_cases"
 rt run < /dev/null > /dev/null
 
 timed() {
     echo "$1"
     printf '%s' "$2" > out/bench.in
-    /usr/bin/time -f '%U seconds of the processor, %M kB at most' out/qv_cert_cases < out/bench.in | tail -c 60
+    /usr/bin/time -f '%U seconds of the processor, %M kB at most' out/qv_check_cases < out/bench.in | tail -c 60
 }
 
 timed 'a million expansion lines' 'large-reader 4096 - 1000002 1*qbv-cert 2\n|1000000*i 3 0 2\n'

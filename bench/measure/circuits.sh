@@ -1,9 +1,9 @@
 #!/usr/bin/env bash
 # Times circuits alone: how many clauses a second are written, printed as a checksum and dropped, and the peak
-# of memory of a list. Uses the program of qv_circuits_cases.
+# of memory of a list. Uses the program of qv_blast_cases.
 # usage: bench/measure/circuits.sh
 set -eu
-cd "$(dirname "$0")/../../crates/qv_circuits_cases"
+cd "$(dirname "$0")/../../crates/qv_blast_cases"
 rt run > /dev/null 2>&1
 room=$(mktemp -d)
 trap 'rm -rf "$room"' EXIT
@@ -11,7 +11,7 @@ measure() {
     local count=$1
     shift
     yes "circuit $*" | head -n "$count" > "$room/in"
-    /usr/bin/time -o "$room/time" -f "%U %S %M" ./out/qv_circuits_cases < "$room/in" > "$room/out"
+    /usr/bin/time -o "$room/time" -f "%U %S %M" ./out/qv_blast_cases < "$room/in" > "$room/out"
     awk -v count="$count" -v case="$*" '
         NR == FNR { seconds = $1 + $2; peak = $3; next }
         { split($0, parts, "; "); split(parts[3], last, " "); clauses = last[1] - 2 }

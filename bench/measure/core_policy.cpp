@@ -80,6 +80,7 @@ struct Order {
 // or one for each hundred literals that are true.
 struct Restarts {
     Number fast = 0, slow = 0, conflicts = 0, last = 0;
+    Number taken_in_turn = 0, taken_else = 0;  // how many literals conflicts took back
 
     void note(unsigned span) {
         Number one = (Number)span << 32;
@@ -90,11 +91,12 @@ struct Restarts {
         slow = slow + (one >> k) - (slow >> k);
     }
 
-    bool due(size_t trues) {
-        if (conflicts < last + std::max<Number>(10, trues / 100) || fast <= slow / 100 * 110) return false;
-        last = conflicts;
-        return true;
-    }
+    bool due(size_t trues) const { return conflicts >= last + std::max<Number>(10, trues / 100) && fast > slow / 100 * 110; }
+
+    // From 500 to 2,500 conflicts variables are decided in turn, while that takes back at most twice as much as was taken back else.
+    bool in_turn() const { return 500 <= conflicts && conflicts < 2500 && taken_in_turn <= 2 * taken_else; }
+
+    void weigh(size_t taken) { (in_turn() ? taken_in_turn : taken_else) += taken; }
 };
 
 struct Solver {
@@ -278,7 +280,9 @@ struct Solver {
             back = level[clause[1] >> 1];
         }
         restarts.note(spans);
+        size_t trues = trail.size();
         back_to(back);
+        restarts.weigh(trues - trail.size());
         Place why = clause.size() > 1 ? add(clause) : NONE;
         if (clause.size() > 2) {
             learnt.push_back(why);
@@ -344,14 +348,23 @@ struct Solver {
         return false;
     }
 
-    // From 500 to 2,500 conflicts variables are decided in turn, from the least. Answers whether that begins or ends.
+    // Variables are decided in turn, from the least, or by the order. Answers whether that is new.
     bool turns() {
-        bool now = 500 <= restarts.conflicts && restarts.conflicts < 2500;
-        if (now == in_turn) return false;
-        in_turn = now;
+        if (restarts.in_turn() == in_turn) return false;
+        in_turn = !in_turn;
         passed = 0;
-        restarts.last = restarts.conflicts;
         return true;
+    }
+
+    // Restarts and reduces, if that is due. The way of deciding changes only then.
+    void pause() {
+        bool full = restarts.conflicts >= reduce_at, due = restarts.due(trail.size());
+        if ((full || due) && (turns() || due)) {
+            restarted++;
+            restarts.last = restarts.conflicts;
+            back_to(0);
+        }
+        if (full) reduce();
     }
 
     // Descends once. Where that comes to a conflict above level 0, the answer is 0: it is taken back, and nothing is learnt.
@@ -381,8 +394,7 @@ struct Solver {
                 learn(analyse(conflict));
                 continue;
             }
-            if (turns() || restarts.due(trail.size())) { restarted++; back_to(0); }
-            if (restarts.conflicts >= reduce_at) reduce();
+            pause();
             if (!decide()) return 10;
         }
     }

@@ -36,7 +36,7 @@ def timed(command, text, seconds):
 
 
 def played(program, formulas, seconds):
-    line = f"count {' '.join(map(str, LIMITS))} {line_of(formulas)}\n"
+    line = f"game count {' '.join(map(str, LIMITS))} {line_of(formulas)}\n"
     told, took = timed([program], line, seconds)
     if told is None:
         return "-", "", "", took

@@ -1,5 +1,5 @@
 #!/usr/bin/env bash
-# Times `prenex` with the program of qv_prenex_cases: on one formula of so many distinct terms without
+# Times `prenex` with the program of qv_rewrite_cases: on one formula of so many distinct terms without
 # quantifiers; on 1,000, 2,000 and 4,000 formulas side by side, each a quantifier above the same term of as
 # many distinct ones; and on 500, 1,000 and 2,000 comparisons side by side, each above the same sum of as many
 # literals and an `ite` with a quantified condition. A line of the formulas is timed as it is, and with a
@@ -12,7 +12,7 @@
 # in 0.0 to 0.5 seconds beside reading them (1.6).
 # usage: bench/measure/prenex.sh [TERMS ..]
 set -eu
-cd "$(dirname "$0")/../../crates/qv_prenex_cases"
+cd "$(dirname "$0")/../../crates/qv_rewrite_cases"
 rt run >/dev/null
 room=$(mktemp -d)
 trap 'rm -rf "$room"' EXIT
@@ -44,7 +44,7 @@ measure() {
     write "$1" "$2" "$3"
     for part in refused whole; do
         printf '%s, %s formulas, %s terms, %s: ' "$1" "$2" "$3" "$part"
-        /usr/bin/env time -f '%U s, %M KiB at most' ./out/qv_prenex_cases < "$room/$part" 2>&1 | tr '\n' ' '
+        /usr/bin/env time -f '%U s, %M KiB at most' ./out/qv_rewrite_cases < "$room/$part" 2>&1 | tr '\n' ' '
         echo
     done
 }

@@ -4,6 +4,7 @@ ghost use Rattle.std.specs.Prelude.{◌≤◌, ◌^◌, IfSome};
 ghost use Rattle.std.specs.Bool.{OnTrue};
 ghost use Rattle.qv_blast.specs.States.{IsBlaster};
 
+use crate::circuits::{Question, say_answer};
 use crate::printing::{FEW, START, say_clauses, say_literals, with_clause};
 use qv_blast::{BlastFault, Blaster};
 use qv_cases_rows::{Answer, Cases, Words};
@@ -16,12 +17,18 @@ enum Call {
     List,
     Grow,
     Many,
+    Circuits(Question),
 }
 
-static CALLS: [(&str, Call); 3] = [
+static CALLS: [(&str, Call); 8] = [
     ("list", Call::List),
     ("grow", Call::Grow),
     ("many", Call::Many),
+    ("circuit", Call::Circuits(Question::Circuit)),
+    ("limited", Call::Circuits(Question::Limited)),
+    ("at", Call::Circuits(Question::At)),
+    ("fresh", Call::Circuits(Question::Fresh)),
+    ("size", Call::Circuits(Question::Size)),
 ];
 
 /// The cases have no state.
@@ -37,6 +44,7 @@ impl Cases for BlastCases {
             Some(Call::List) => list(self.alloc, &mut store, words, out),
             Some(Call::Grow) => grow(self.alloc, &mut store, words, out),
             Some(Call::Many) => many(self.alloc, &mut store, words, out),
+            Some(Call::Circuits(question)) => say_answer(self.alloc, *question, words, out),
             None => out.refuse(),
         }
     }
@@ -85,7 +93,7 @@ fn list_by(
         say_state(store, blaster, out);
     } else {
         assert_all(store, blaster, ids, &mut Answer::new(alloc));
-        say_clauses(out, blaster.clauses(), end_of(blaster));
+        say_clauses(out, blaster.clauses(), 1, end_of(blaster));
     }
 }
 
@@ -254,7 +262,7 @@ fn say_state(store: &Store, blaster: &Blaster, out: &mut Answer)
     } else {
         say_bits(store, blaster, out);
     }
-    say_clauses(out, blaster.clauses(), end);
+    say_clauses(out, blaster.clauses(), 1, end);
 }
 
 // Says the bits of each term, `-` where it has none.

@@ -31,10 +31,10 @@ pub fn with_clause(sum: u64, lits: &[Lit]) -> u64 {
     mixed(sum, 1)
 }
 
-// The checksum of the clauses from id 1 on.
-fn checksum(list: &ClauseList, end: u64) -> u64 {
+// The checksum of the clauses from the first id on.
+fn checksum(list: &ClauseList, first: u64, end: u64) -> u64 {
     let mut sum = START;
-    for id in 1..end {
+    for id in first..end {
         if let Some(lits) = list.get(id) {
             sum = with_clause(sum, lits);
         }
@@ -42,25 +42,25 @@ fn checksum(list: &ClauseList, end: u64) -> u64 {
     sum
 }
 
-/// Says the clauses from id 1 on, each behind a semicolon, or their number and a checksum where
-/// there are many.
-pub fn say_clauses(out: &mut Answer, list: &ClauseList, end: u64) {
+/// Says the clauses from the first id on, each behind a semicolon, or their number and a checksum
+/// where there are many.
+pub fn say_clauses(out: &mut Answer, list: &ClauseList, first: u64, end: u64) {
     if end > FEW {
-        say_sum(out, list, end);
+        say_sum(out, list, first, end);
     } else {
-        say_each(out, list, end);
+        say_each(out, list, first, end);
     }
 }
 
-fn say_sum(out: &mut Answer, list: &ClauseList, end: u64) {
+fn say_sum(out: &mut Answer, list: &ClauseList, first: u64, end: u64) {
     out.say("; ");
     out.show(end);
     out.put(' ');
-    out.hex(u128::from(checksum(list, end)));
+    out.hex(u128::from(checksum(list, first, end)));
 }
 
-fn say_each(out: &mut Answer, list: &ClauseList, end: u64) {
-    for id in 1..end {
+fn say_each(out: &mut Answer, list: &ClauseList, first: u64, end: u64) {
+    for id in first..end {
         out.put(';');
         match list.get(id) {
             Some(lits) => say_literals(out, lits),

@@ -29,7 +29,7 @@ use Rattle.qv_lrat_text.proofs.LineLemmas.{lrat_line-spelling, without_lf-line}
 use Rattle.qv_cert.specs.declared.kind.RefusalKind.TheVariants as kind
 use Rattle.qv_words.specs.Rules.{name_of_rule, rule_named}
 use Rattle.qv_rewrite_passes.specs.declared.pass.Pass.{Pass}
-use Rattle.qv_rewrite_passes.specs.declared.pass.Pass.TheVariants.{By, Sum}
+use Rattle.qv_rewrite_passes.specs.declared.pass.Pass.TheVariants.{By, Sum, Xor, Simp}
 use Rattle.qv_rewrite_passes.specs.Names.{name_of_pass, pass_named}
 use Rattle.qv_cert.specs.Line.{CertLine, Header, Check, VariableNode, EigenNode, LiteralNode, OperatorNode, Skolem, Instance, Eigen, Rewrite, Lrat, Step, End, IsCertLine, IsNumber, IsIndex}
 use Rattle.qv_cert.specs.Grammar.{number, large_number, numbers, answer_named, sort_of_width, is_value, literal_node, at_colon, application, one_number, two_numbers, three_numbers, read, node_line, node, behind_word, formed, outer_line, inner_line, lrat_step, cert_line}
@@ -146,6 +146,8 @@ pass-word : (p : Pass) → IsWord (name_of_pass p)
 unfolding is_blank
 pass-word (By rule) = rule-word rule
 pass-word Sum = (omega arith, refl)
+pass-word Xor = (omega arith, refl)
+pass-word Simp = (omega arith, refl)
 
 rule-read : (r : Rule) → pass_named (name_of_rule r) ≡ Some (By r)
 unfolding rule_named
@@ -156,6 +158,8 @@ pass-read : (p : Pass) → pass_named (name_of_pass p) ≡ Some p
 unfolding rule_named
 pass-read (By rule) = rule-read rule
 pass-read Sum = refl
+pass-read Xor = refl
+pass-read Simp = refl
 
 operator-word : (o : Op) → IsWord (name_of o)
 unfolding is_blank

@@ -7,7 +7,7 @@ use Rattle.qv_words.specs.declared.op.Op.TheVariants.{Concat, Extract}
 use Rattle.qv_words.specs.declared.op.Answer.TheVariants.{Unsat}
 use Rattle.qv_words.specs.Tree.{Variable}
 use Rattle.qv_words.specs.declared.rule.Rule.TheVariants.{NotNot}
-use Rattle.qv_rewrite_passes.specs.declared.pass.Pass.TheVariants.{By, Sum}
+use Rattle.qv_rewrite_passes.specs.declared.pass.Pass.TheVariants.{By, Sum, Xor, Simp}
 use Rattle.qv_words.specs.Clauses.{cnf_variables, variables_from}
 use Rattle.qv_cnf.specs.LratLine.{Deletion}
 use Rattle.qv_lrat_text.specs.Words.{words, is_blank}
@@ -39,6 +39,8 @@ lines =
     ∷ (codes "n 7 o concat : 2 3", Ok (OperatorNode 7 Concat (2 ∷ 3 ∷ [])))
     ∷ (codes "w not-not", Ok (Rewrite (By NotNot)))
     ∷ (codes "w sum", Ok (Rewrite Sum))
+    ∷ (codes "w xor", Ok (Rewrite Xor))
+    ∷ (codes "w simp", Ok (Rewrite Simp))
     ∷ (codes "end", Ok End)
     ∷ (codes "qbv-cert 3", Err kind.Header)
     ∷ (codes "qbv-cert 01", Err kind.Header)

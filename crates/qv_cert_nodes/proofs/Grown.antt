@@ -1,6 +1,7 @@
 -- One more node, term or line, in a store that has grown.
-use Rattle.std.proofs.Common.{◌≡◌, ℕ, zero, suc, ◌+◌, ◌<◌, ◌≤◌, Bool, true, false, cond, Option, Some, None, List, [], ◌∷◌, ◌++◌, length, map, slice_get, refl, sym, ap, subst, ◌∙◌, inl, inr, arith}
-use Rattle.std.specs.List.{AllByRecursion}
+use Rattle.std.proofs.Common.{◌≡◌, ℕ, zero, suc, ◌+◌, ◌<◌, ◌≤◌, ◌==◌, ◌||◌, Bool, true, false, cond, Option, Some, None, List, [], ◌∷◌, ◌++◌, length, map, slice_get, refl, sym, ap, subst, ◌∙◌, inl, inr, arith}
+use Rattle.std.specs.List.{AllByRecursion, list_any}
+use Rattle.std.proofs.lemmas.List.Folds.{list_any-append}
 use Rattle.std.proofs.lemmas.Option.{slice_get_within}
 use Rattle.qv_words.specs.Tree.{Tree, Variable, tree_sort}
 use Rattle.qv_words.specs.Problem.{Problem}
@@ -17,7 +18,7 @@ use Rattle.qv_cert.specs.Listed.{Listed as PlainListed, grown_of, with_node, wit
 use Rattle.qv_cert_nodes.specs.declared.listed.Listed.{Listed}
 use Rattle.qv_cert_nodes.specs.declared.listed.Term.{Term}
 use Rattle.qv_cert_nodes.specs.declared.listed.Branch.{Branch}
-use Rattle.qv_cert_nodes.specs.Lists.{term_in, line_in, listed_in, depth_in, eigen_in, reach_of, IsBranch, IsListed}
+use Rattle.qv_cert_nodes.specs.Lists.{term_in, line_in, listed_in, depth_in, eigen_in, mark_at, reach_of, IsBranch, IsListed, MarksTerms}
 use Rattle.qv_cert_nodes.specs.Pushing.{HasNode, HasTerm, HasBranch, Lists}
 use Rattle.qv_cert_nodes.proofs.Kept.{depth-kept, length-of}
 use Rattle.qv_words.proofs.Shorter.{grown-longer}
@@ -89,6 +90,7 @@ kept-stays trees more p a g h = record {
   reaches = h.reaches ∙ same-map (λ id. reach_of (tree_at trees id)) (λ id. reach_of (tree_at more id)) a.nodes.items
       (all-weaker (λ id. id < length trees) (λ id. reach_of (tree_at trees id) ≡ reach_of (tree_at more id)) a.nodes.items (λ id k. ap reach_of (sym (stays trees more id g k))) h.nodes);
   terms = all-weaker (λ t. t.id < length trees) (λ t. t.id < length more) a.terms.items (λ t k. omega (arith, k, longer trees more g)) h.terms;
+  marks = h.marks;
   branches = λ n b e. subst (λ (l : PlainListed). IsBranch more (grown_of p l) n b) (sym (listed-stays trees more p a g h)) (branch-stays trees more (grown_of p (listed_in trees a)) n b g (h.branches n b e));
 }
 
@@ -100,6 +102,25 @@ same-branches : (trees : List Tree) (p : Problem) (old new : Listed) → new.bra
 same-branches trees p old new e h n b at =
     subst (λ (bs : List Branch). IsBranch trees (grown_behind p [] (map (line_in trees) bs)) n b) (sym e)
     (h.branches n b (ap (λ (bs : List Branch). slice_get bs n) (sym e) ∙ at))
+
+-- the marks of the terms
+same-marks : (old new : Listed) → new.marks.items ≡ old.marks.items → new.terms.items ≡ old.terms.items → MarksTerms old → MarksTerms new
+same-marks old new marks terms h place =
+    ap (λ (ms : List Bool). mark_at ms place) marks ∙ h place ∙ ap (list_any (λ (t : Term). t.place == place)) (sym terms)
+
+-- and of one more
+one-marked : (old new : Listed) (t : Term) → HasTerm old new t → MarksTerms old → MarksTerms new
+one-marked old new t w h place =
+    w.marks place
+    ∙ ap (λ (b : Bool). b || t.place == place) (h place)
+    ∙ sym (ap (list_any is_its) w.terms ∙ list_any-append is_its old.terms.items (t ∷ []) ∙ ap (λ (b : Bool). list_any is_its old.terms.items || b) (or-false (t.place == place)))
+  where
+    is_its : Term → Bool
+    is_its = λ x. x.place == place
+
+    or-false : (b : Bool) → (b || false) ≡ b
+    or-false true = refl
+    or-false false = refl
 
 node-here : (trees : List Tree) (p : Problem) (old new : Listed) (id reach : ℕ) (t : Tree) → IsListed trees p old → HasNode old new id reach → StandsAt trees id t → reach ≡ reach_of t
     → Lists trees p new (with_node t (listed_in trees old))
@@ -115,6 +136,7 @@ node-here trees p old new id reach t h w s e = record {
         ∙ sym (map-pushed (λ n. reach_of (tree_at trees n)) old.nodes.items id)
         ∙ ap (map (λ n. reach_of (tree_at trees n))) (sym w.nodes);
     terms = subst (AllByRecursion (λ x. x.id < length trees)) (sym w.terms) h.terms;
+    marks = same-marks old new w.marks w.terms h.marks;
     branches = same-branches trees p old new w.branches h;
   };
 }
@@ -142,6 +164,7 @@ term-listed trees p old new t term h w below e = record {
     nodes = subst (AllByRecursion (λ n. n < length trees)) (sym w.nodes) h.nodes;
     reaches = w.reaches ∙ h.reaches ∙ ap (map (λ n. reach_of (tree_at trees n))) (sym w.nodes);
     terms = subst (AllByRecursion (λ x. x.id < length trees)) (sym w.terms) (both (λ x. x.id < length trees) old.terms.items (t ∷ []) h.terms (below, tt));
+    marks = one-marked old new t w h.marks;
     branches = same-branches trees p old new w.branches h;
   };
 }
@@ -232,6 +255,7 @@ branch-listed trees more p old new b h g w m =
         nodes = subst (AllByRecursion (λ n. n < length more)) (sym w.nodes) k.nodes;
         reaches = w.reaches ∙ k.reaches ∙ ap (map (λ n. reach_of (tree_at more n))) (sym w.nodes);
         terms = subst (AllByRecursion (λ x. x.id < length more)) (sym w.terms) k.terms;
+        marks = same-marks old new w.marks w.terms k.marks;
         branches = λ n x at. subst (λ (bs : List Branch). IsBranch more (grown_behind p [] (map (line_in more) bs)) n x) (sym w.branches)
             (branches-pushed more p old b k m n x (ap (λ (bs : List Branch). slice_get bs n) (sym w.branches) ∙ at));
       };

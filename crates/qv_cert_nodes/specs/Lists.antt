@@ -1,7 +1,7 @@
 -- What is kept of the lines of a section, over a store, and what it stands for.
-use Rattle.std.specs.Prelude.{◌≡◌, ℕ, zero, suc, ◌<◌, ◌≤◌, ◌++◌, max, nat_lt, nat_le, Bool, true, ◌&&◌, if◌then◌else◌, Option, Some, None, List, [], ◌∷◌, map, length, slice_get, slice_index_or}
+use Rattle.std.specs.Prelude.{◌≡◌, ℕ, zero, suc, ◌<◌, ◌≤◌, ◌++◌, max, nat_lt, nat_le, Bool, true, false, ◌==◌, ◌&&◌, if◌then◌else◌, Option, Some, None, List, [], ◌∷◌, map, length, slice_get, slice_index_or}
 use Rattle.std.specs.Option.{option_map_or}
-use Rattle.std.specs.List.{AllByRecursion}
+use Rattle.std.specs.List.{AllByRecursion, list_any}
 use Rattle.qv_words.specs.declared.sort.Sort.{Sort}
 use Rattle.qv_words.specs.Sort.{IsLawful}
 use Rattle.qv_words.specs.Tree.{Tree, Variable, tree_sort}
@@ -97,6 +97,14 @@ abbrev pub reach_of_nodes : Listed → List ℕ → ℕ
 reach_of_nodes a [] = 0
 reach_of_nodes a (k ∷ ks) = max (reach_at a k) (reach_of_nodes a ks)
 
+-- whether a place is marked
+abbrev pub mark_at : List Bool → ℕ → Bool
+mark_at marks place = slice_index_or marks place false
+
+-- the places that are marked are those of the terms
+abbrev pub MarksTerms : Listed → Type 0
+MarksTerms a = (place : ℕ) → mark_at a.marks.items place ≡ list_any (λ t. t.place == place) a.terms.items
+
 -- a place of a lawful sort
 pub record IsLawfulPlace (p : StoreProblem) (place : ℕ) : Type 0 where
   pub found : Place
@@ -107,10 +115,11 @@ pub record IsLawfulPlace (p : StoreProblem) (place : ℕ) : Type 0 where
 abbrev pub HasTerms : List Tree → Listed → Type 0
 HasTerms trees a = AllByRecursion (λ id. id < length trees) a.nodes.items
 
--- the terms stand in the store, each node has its reach beside it, and so have the lines what is
--- known of them
+-- the terms stand in the store, each node has its reach beside it, the places of terms are marked,
+-- and the lines have beside them what is known of them
 pub record IsListed (trees : List Tree) (p : Problem) (a : Listed) : Type 0 where
   pub nodes : HasTerms trees a
   pub reaches : a.reaches.items ≡ map (λ id. reach_of (tree_at trees id)) a.nodes.items
   pub terms : AllByRecursion (λ t. t.id < length trees) a.terms.items
+  pub marks : MarksTerms a
   pub branches : (n : ℕ) (b : Branch) → slice_get a.branches.items n ≡ Some b → IsBranch trees (grown_of p (listed_in trees a)) n b

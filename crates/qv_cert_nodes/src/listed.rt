@@ -1,6 +1,7 @@
 //! What the lines of a section listed.
 
-ghost use Rattle.std.specs.Prelude.{◌≡◌, ◌==◌, suc, ◌<◌, List, IsTrue, OnOk, length};
+ghost use Rattle.std.specs.Prelude.{◌≡◌, ◌==◌, ◌||◌, ◌^◌, suc, ◌<◌, ℕ, List, IsTrue, OnOk};
+ghost use Rattle.std.specs.Prelude.{length};
 ghost use Rattle.std.specs.Prelude.{is_some};
 ghost use Rattle.qv_words.specs.Tree.{Tree};
 ghost use Rattle.qv_words.specs.Problem.{Problem};
@@ -8,6 +9,7 @@ ghost use Rattle.std.specs.List.{list_any};
 ghost use Rattle.qv_store.specs.Nodes.{tree_at};
 ghost use Rattle.qv_cert.specs.Listed.{nothing, tree_of_node, grown_line, eigen_sort};
 ghost use Rattle.qv_cert.specs.Faults.{depth_of};
+ghost use Rattle.qv_cert_nodes.specs.Lists.{mark_at};
 
 use qv_store::{Id, NoMemory};
 use std::alloc::Global;
@@ -38,6 +40,8 @@ pub struct Listed {
     // Of each node, one more than the greatest level of its variables, or 0.
     pub(crate) reaches: Vec<u64>,
     pub(crate) terms: Vec<Term>,
+    // Of each place up to the greatest that has a term, whether it has one.
+    pub(crate) marks: Vec<bool>,
     pub(crate) branches: Vec<Branch>,
 }
 
@@ -45,7 +49,7 @@ impl Listed {
     ghost use Rattle.std.specs.Option.{option_copied};
     ghost use Rattle.qv_cert_nodes.specs.Lists.{listed_in, reach_of, branch_numbered, IsListed};
     ghost use Rattle.qv_cert_nodes.specs.Lists.{HasTerms, IsNodeOf, depth_in};
-    ghost use Rattle.qv_cert_nodes.specs.Lists.{id_at, reach_at, has_number};
+    ghost use Rattle.qv_cert_nodes.specs.Lists.{id_at, reach_at, has_number, MarksTerms};
     ghost use Rattle.qv_cert_nodes.specs.Pushing.{HasNode, HasTerm, HasBranch};
 
     /// Nothing is listed.
@@ -57,6 +61,7 @@ impl Listed {
             nodes: Vec::new(alloc),
             reaches: Vec::new(alloc),
             terms: Vec::new(alloc),
+            marks: Vec::new(alloc),
             branches: Vec::new(alloc),
         }
     }
@@ -150,9 +155,13 @@ impl Listed {
 
     /// Whether a place has a term.
     pub fn has_term(&self, place: u64) -> bool
+        requires { MarksTerms self.now }
         ensures { result ≡ list_any (λ t. t.place == place) self.now.terms.items }
     {
-        self.terms.iter().any(|term| term.place == place)
+        match self.marks.get(place as usize) {
+            Some(marked) => *marked,
+            None => false,
+        }
     }
 
     /// The terms of places, in the order of their lines.
@@ -181,9 +190,12 @@ impl Listed {
 
     // One more term.
     pub(crate) fn push_term(&mut self, term: Term) -> Result<(), NoMemory>
+        requires { term.place < 2 ^ 63 }
         ensures { OnOk result (HasTerm self.old self.new term) }
     {
-        self.terms.push(term)?;
+        self.terms.reserve(1)?;
+        mark(&mut self.marks, term.place as usize)?;
+        self.terms.push_reserved(term);
         Ok(())
     }
 
@@ -194,4 +206,17 @@ impl Listed {
         self.branches.push(branch)?;
         Ok(())
     }
+}
+
+// Marks a place. Those that come with it are not marked.
+fn mark(marks: &mut Vec<bool>, place: usize) -> Result<(), NoMemory>
+    requires { place < 2 ^ 63 }
+    ensures { OnOk result ((other : ℕ) →
+        mark_at marks.new.items other ≡ (mark_at marks.old.items other || place == other)) }
+{
+    if place >= marks.len() {
+        marks.resize(place + 1, false)?;
+    }
+    marks[place] = true;
+    Ok(())
 }

@@ -164,7 +164,8 @@ fn reach_of_nodes(listed: &Listed, nodes: &[u64]) -> u64
 
 // A place's term.
 fn list_term(listed: &mut Listed, place: u64, node: u64) -> Result<(), NoMemory>
-    requires { IsNodeOf listed.old node }
+    requires place { place < 2 ^ 63 }
+    requires node { IsNodeOf listed.old node }
     ensures { (trees : List Tree) (p : PlainProblem) → IsListed trees p listed.old →
         OnOk result (Lists trees p listed.new (with_term
         (record { place = place; term = tree_of_node (listed_in trees listed.old) node })

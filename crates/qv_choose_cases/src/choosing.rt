@@ -1,31 +1,24 @@
 //! The answers to cases: terms with a semicolon between them, or `no terms`.
 
 use crate::ready::{is_block, is_region, is_true};
-use qv_cases_rows::{Answer, Cases, Words};
+use qv_cases_rows::{Answer, Words};
 use qv_cases_terms::{is_plain, say_terms, term, words};
 use qv_choose::{candidates, choose};
 use qv_store::{Id, Store};
 use qv_words::Word;
 use std::alloc::Global;
 
-/// The cases have no state.
-#[derive(Clone, Copy)]
-pub struct ChoiceCases {
-    pub alloc: Global,
-}
-
-impl Cases for ChoiceCases {
-    fn answer(&mut self, words: &mut Words<'_>, out: &mut Answer) {
-        let mut store = Store::new(self.alloc);
-        let made = match words.next() {
-            "choose" => chosen_terms(self.alloc, &mut store, words),
-            "candidates" => candidate_terms(self.alloc, &mut store, words),
-            _ => None,
-        };
-        match made {
-            Some(ids) => say_terms(self.alloc, out, &store, &ids),
-            None => out.refuse(),
-        }
+/// Says the terms of `choose FIRST END WORDS | REGION`, or of `candidates FIRST END PLACE | REGION`.
+pub fn say_chosen(alloc: Global, is_choice: bool, words: &mut Words<'_>, out: &mut Answer) {
+    let mut store = Store::new(alloc);
+    let made = if is_choice {
+        chosen_terms(alloc, &mut store, words)
+    } else {
+        candidate_terms(alloc, &mut store, words)
+    };
+    match made {
+        Some(ids) => say_terms(alloc, out, &store, &ids),
+        None => out.refuse(),
     }
 }
 

@@ -1,11 +1,11 @@
 //! The region that lies outside others.
 
-ghost use Rattle.std.specs.Prelude.{◌≡◌, ◌<◌, ◌∷◌, All, IfOk, IfSome, length};
+ghost use Rattle.std.specs.Prelude.{◌≡◌, ◌<◌, ◌∷◌, All, IfOk, IfSome, IsTrue, length};
 ghost use Rattle.qv_words.specs.declared.sort.Sort.TheVariants.{Bool as BoolSort};
 ghost use Rattle.qv_words.specs.Skolem.{IsTermOf};
 ghost use Rattle.qv_store.specs.Stores.{Grows};
 ghost use Rattle.qv_store.specs.Walks.{named};
-ghost use Rattle.qv_game_outside.specs.Outside.{LeavesNone};
+ghost use Rattle.qv_game_outside.specs.Outside.{HaveNoModel, LeavesNone};
 
 use crate::refuting::are_refuted;
 use qv_conjoin::conjoin;
@@ -43,6 +43,15 @@ pub fn outside(
         return Ok(Some(region));
     }
     Ok(None)
+}
+
+/// Whether it is found, within the budget of the question, that no values make all formulas true.
+pub fn never(alloc: Global, store: &Store, formulas: &[Id]) -> Result<bool, NoMemory>
+    requires below { All (λ n. n < length store.now) formulas.now }
+    requires terms { All (λ t. IsTermOf t BoolSort) (named store.now formulas.now) }
+    ensures { IfOk result (λ never. IsTrue never → HaveNoModel (named store.now formulas.now)) }
+{
+    are_refuted(alloc, store, formulas)
 }
 
 // A formula and others behind it.

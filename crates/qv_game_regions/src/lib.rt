@@ -4,6 +4,7 @@
 mod fixing;
 pub mod laws;
 mod putting;
+mod reducing;
 mod run;
 mod taking;
 

@@ -15,8 +15,8 @@ ghost use Rattle.qv_store.specs.Stores.{AreShared, Grows};
 ghost use Rattle.qv_store.specs.Walks.{named};
 ghost use Rattle.qv_game_regions.specs.Slots.{slots_from};
 
+use crate::reducing::reduce;
 use qv_choose::choose;
-use qv_rewrite::simplify;
 use qv_store::{Id, NoMemory, Store};
 use qv_words::Word;
 use std::alloc::Global;
@@ -29,8 +29,9 @@ pub struct Taken {
 }
 
 /// What the owner of the block with the places from `first` on takes, where the later region is
-/// true at the point: the chosen terms, and the later region with them put in, simplified. Also
-/// where memory runs out the store keeps what was put.
+/// true at the point: the chosen terms, and the later region with them put in, simplified, and behind
+/// the passes of small rules and of sums where that leaves fewer terms. Also where memory runs out the
+/// store keeps what was put.
 pub fn take(
     alloc: Global,
     store: &mut Store,
@@ -58,7 +59,7 @@ pub fn take(
     let terms = choose(alloc, store, later, first, end, point)?;
     let slots = slots(alloc, first, &terms)?;
     let led = store.put_in(later, &slots)?;
-    let region = simplify(alloc, store, led)?;
+    let region = reduce(alloc, store, led)?;
     Ok(Taken { terms, region })
 }
 

@@ -25,7 +25,9 @@ use Rattle.qv_store.specs.declared.problem.Problem.{Problem as Posed}
 use Rattle.qv_meter.specs.Queries.{block_count}
 use Rattle.qv_meter.specs.Records.{IsMetering, Metering}
 use Rattle.qv_rewrite_passes.specs.declared.pass.Pass.{Pass}
-use Rattle.qv_rewrite_passes.specs.declared.pass.Pass.TheVariants.{By, Sum}
+use Rattle.qv_rewrite_passes.specs.Xors.{xored}
+use Rattle.qv_rewrite_passes.specs.Simps.{simped}
+use Rattle.qv_rewrite_passes.specs.declared.pass.Pass.TheVariants.{By, Sum, Xor, Simp}
 use Rattle.qv_rewrite_passes.specs.Passes.{behind_all}
 use Rattle.qv_rewrite_passes.proofs.Behind.{all-stand}
 use Rattle.qv_game_play_laws.proofs.Standing.{each-over, plain-of}
@@ -78,6 +80,8 @@ one-behind : (ps : List Pass) (t : Tree) → (u : Tree) × (behind_all ps (t ∷
 one-behind [] t = (t, refl)
 one-behind (By rule ∷ ps) t = one-behind ps (passed rule t)
 one-behind (Sum ∷ ps) t = one-behind ps (summed t)
+one-behind (Xor ∷ ps) t = one-behind ps (xored t)
+one-behind (Simp ∷ ps) t = one-behind ps (simped t)
 
 -- and of the last region the last formula
 pub last-behind : (trees : List Tree) (p : Problem) (q : Quantifier) (ps : List Pass) (ids : List ℕ) → IsProblem p → All (λ n. n < length trees) ids → named trees ids ≡ behind_all ps (last_region p q ∷ []) → (id : ℕ) × (ids ≡ id ∷ []) × IsLastFormula trees p q id

@@ -2,6 +2,7 @@
 use Rattle.std.proofs.Common.{◌≡◌, ◌≢◌, ℕ, suc, ◌+◌, ◌-◌, ◌≤◌, ◌<◌, ◌==◌, Bool, true, false, Option, Some, None, List, [], ◌∷◌, ◌++◌, length, map, slice_get, refl, sym, ap, ◌∙◌, subst, arith}
 use Rattle.std.specs.Prelude.{IfSome}
 use Rattle.std.specs.List.{All}
+use Rattle.std.proofs.lemmas.List.Elements.{All-from_recursion}
 use Rattle.std.proofs.lemmas.Bool.{ne_eqb}
 use Rattle.std.proofs.lemmas.List.{length-map, take_all}
 use Rattle.qv_words.specs.declared.word.Word.{Word}
@@ -29,7 +30,7 @@ use Rattle.qv_meter.proofs.Following.{blocks-alternate}
 use Rattle.qv_meter.proofs.Standing.{stands-inner}
 use Rattle.qv_game_play_laws.specs.PlayLaws.{MayMove, outside_all, sorts_below}
 use Rattle.qv_game_play_laws.proofs.Complement.{complement-is_played}
-use Rattle.qv_game_outside.specs.Outside.{LeavesNone}
+use Rattle.qv_game_outside.specs.Outside.{HaveNoModel, LeavesNone}
 use Rattle.qv_game_state.specs.declared.game.Game.{Game}
 use Rattle.qv_game_state.specs.declared.query.Query.{Query}
 use Rattle.qv_game_state.specs.Playing.{IsGame, IsQueryAt}
@@ -39,7 +40,7 @@ use Rattle.qv_circuits.specs.Adding.{lits_of}
 use Rattle.qv_game_state.proofs.Asking.{stands-above}
 use Rattle.qv_game_state.proofs.Keeping.{entries-stay, game-stays, named-stays, posed-in_stays, posed-stays}
 use Rattle.qv_game_state.proofs.Levels.{point-count, point-typed}
-use Rattle.qv_game_turns.specs.Moves.{IsForcedRegion, IsOutsideRegion, MayForce, linked_to_all}
+use Rattle.qv_game_turns.specs.Moves.{IsForcedRegion, IsNever, IsOutsideRegion, MayForce, linked_to_all}
 use Rattle.qv_game_turns.proofs.Forcing.{other-not}
 
 pub twice-other : (q : Quantifier) → other (other q) ≡ q
@@ -137,6 +138,21 @@ force-stays old new posed p limit g level point core m grows h =
       none = λ q at. subst (λ (ts : List Tree). LeavesNoValues ts (sorts_below p (level + 1)) point (lits_of core)) (sym (named-stays old new q.list.items grows (h.game.queries (level - 1) q at).below)) (h.none q at);
     }
 
+-- where the query asks for what has no values, no bits of the point are needed
+pub force-never : (trees : List Tree) (posed : Posed) (p : Problem) (limit : ℕ) (g : Game) (level : ℕ) (point : List Word) (core : List Literal) (m : Metering) → IsNever trees g level → MayForce trees posed p limit g level point core m → MayForce trees posed p limit g level point [] m
+force-never trees posed p limit g level point core m never h = record {
+  posed_in = h.posed_in;
+  is = h.is;
+  game = h.game;
+  undecided = h.undecided;
+  settled = h.settled;
+  low = h.low;
+  high = h.high;
+  sorts = h.sorts;
+  outside = h.outside;
+  none = λ q at. record { each = All-from_recursion _ [] tt; no_model = λ v e failed. never q at v e };
+}
+
 -- the formulas of a query may be asked
 pub query-below : (trees : List Tree) (p : Problem) (limit : ℕ) (g : Game) (m : Metering) (i : ℕ) (q : Query) (ids : List ℕ) → IsGame trees p limit g m → slice_get g.queries.items i ≡ Some q → ids ≡ q.list.items → All (λ n. n < length trees) ids
 query-below trees p limit g m i q ids h at same = subst (λ (ns : List ℕ). All (λ n. n < length trees) ns) (sym same) (h.queries i q at).below
@@ -164,3 +180,10 @@ outside-region old new g level before query denials asked id low at there denied
   none = subst (λ (ns : List ℕ). LeavesNone new (named old ns) (named old query.list.items) id) denied
       (subst (λ (ns : List ℕ). LeavesNone new (named old denials) (named old ns) id) are none);
 }
+
+-- what the list of a level's query has
+pub never-asked : (trees : List Tree) (g : Game) (level : ℕ) (q : Query) (ids : List ℕ) → slice_get g.queries.items (level - 1) ≡ Some q → ids ≡ q.list.items → HaveNoModel (named trees ids) → IsNever trees g level
+never-asked trees g level q ids at are none other there =
+    let same : Some q ≡ Some other = sym at ∙ there in
+    let one : q ≡ other = cc in
+    subst (λ (r : Query). HaveNoModel (named trees r.list.items)) one (subst (λ (ns : List ℕ). HaveNoModel (named trees ns)) are none)

@@ -18,7 +18,7 @@ use Rattle.qv_game_play_laws.specs.PlayLaws.{sorts_below}
 use Rattle.qv_game_lanes.specs.Asking.{LeavesNone as LeavesNoValues}
 use Rattle.qv_cnf.specs.Literal.{Literal}
 use Rattle.qv_circuits.specs.Adding.{lits_of}
-use Rattle.qv_game_outside.specs.Outside.{LeavesNone}
+use Rattle.qv_game_outside.specs.Outside.{HaveNoModel, LeavesNone}
 use Rattle.qv_game_state.specs.declared.game.Game.{Game}
 use Rattle.qv_game_state.specs.declared.query.Query.{Query}
 use Rattle.qv_game_state.specs.Playing.{IsGame}
@@ -56,6 +56,10 @@ pub record IsOutsideRegion (old new : List Tree) (g : Game) (level id : ℕ) : T
   pub before_is : slice_get g.queries.items (level - 2) ≡ Some before
   pub query_is : slice_get g.queries.items (level - 1) ≡ Some query
   pub none : LeavesNone new (named old before.list.items) (named old query.list.items) id
+
+-- what a level's query asks for has no values
+abbrev pub IsNever : List Tree → Game → ℕ → Type 0
+IsNever trees g level = (q : Query) → slice_get g.queries.items (level - 1) ≡ Some q → HaveNoModel (named trees q.list.items)
 
 -- a game after a forced entry came, under this number
 pub record IsForcedIn (trees : List Tree) (p : Problem) (limit : ℕ) (old new : Game) (level : ℕ) (winner : Quantifier) (point : List Word) (number : ℕ) (m : Metering) : Type 0 where

@@ -1,6 +1,6 @@
 //! The two moves that add an entry.
 
-ghost use Rattle.std.specs.Prelude.{◌≡◌, ◌<◌, ◌≤◌, ◌^◌, All, IfOk, IfSome, List};
+ghost use Rattle.std.specs.Prelude.{◌≡◌, ◌<◌, ◌≤◌, ◌^◌, All, IfOk, IfSome, IsTrue, List};
 ghost use Rattle.std.specs.Prelude.{ℕ, length, option_to_list};
 ghost use Rattle.qv_words.specs.Tree.{Tree};
 ghost use Rattle.qv_words.specs.Problem.{Problem as PlainProblem, other};
@@ -19,18 +19,21 @@ ghost use Rattle.qv_game_state.specs.Playing.{IsGame};
 ghost use Rattle.qv_game_state.specs.Spots.{BlockAt};
 ghost use Rattle.qv_game_links.specs.Thinning.{AreThinned, IsFormula};
 ghost use Rattle.qv_game_turns.specs.Moves.{IsForcedIn, IsForcedRegion, IsLater, IsOutsideRegion};
-ghost use Rattle.qv_game_turns.specs.Moves.{MayForce, MayOwn};
+ghost use Rattle.qv_game_turns.specs.Moves.{IsNever, MayForce, MayOwn};
 
 use qv_cnf::Lit;
 use qv_entries::{Entries, Entry};
 use qv_game_links::thin;
-use qv_game_outside::outside;
+use qv_game_outside::{never, outside};
 use qv_game_regions::{fix, take};
 use qv_game_state::{Game, failed_runs, put_last};
 use qv_meter::{Meter, PlayFault};
 use qv_store::{Id, NoMemory, Problem, Quant, Store};
 use qv_words::Word;
 use std::alloc::{AllocError, Global};
+
+// More entries at the next level don't let one ask again.
+const MOST_ASKED: u32 = 16;
 
 // The owner of a level's block takes terms by which the point's values lead to a later region of
 // its own: that of an entry, or the last one. It wins from its own region.
@@ -144,7 +147,7 @@ pub(crate) fn force(
 }
 
 // A region that leaves the owner of a level's block no values: all that lies outside its regions
-// there, or else the bits of the point that a core names.
+// there, or all there is, or else the bits of the point that a core names.
 fn forced_region(
     game: &Game,
     alloc: Global,
@@ -164,11 +167,14 @@ fn forced_region(
     if let Some(region) = outside_of(game, alloc, store, level)? {
         return Ok(region);
     }
+    if is_never(game, alloc, store, level)? {
+        return fix_failed(game, alloc, store, level, point, &[]);
+    }
     fix_failed(game, alloc, store, level, point, core)
 }
 
-// All that lies outside the regions of a level's owner there, where this has the newest one of the
-// level and it is found that no values are left to it.
+// All that lies outside the regions of a level's owner there, where it is found that no values are
+// left to it. This is looked for only where there is something new to it.
 fn outside_of(
     game: &Game,
     alloc: Global,
@@ -186,23 +192,48 @@ fn outside_of(
     }
     let index = level as usize - 1;
     let before = &game.queries[index - 1];
-    if !is_newest(&game.entries, level, before.winner) {
+    if !is_due(&game.entries, level, before.winner) {
         return Ok(None);
     }
     let query = &game.queries[index];
     outside(alloc, store, &before.list, &query.list)
 }
 
-// Whether the newest entry of a level is this winner's.
-fn is_newest(entries: &Entries, level: u64, winner: Quant) -> bool {
-    let mut newest = false;
+// Whether it is found that what a level's query asks for has no values, whatever the point is. This
+// is looked for where the level's owner has no regions there, and there is something new to it.
+fn is_never(game: &Game, alloc: Global, store: &Store, level: u64) -> Result<bool, NoMemory>
+    requires { (p : PlainProblem) × (limit : ℕ) × (m : Metering)
+        × IsGame store.now p limit game.now m × (1 ≤ level) × (level ≤ block_count p) }
+    ensures { IfOk result (λ never. IsTrue never → IsNever store.now game.now level) }
+{
+    if level < 2 {
+        return Ok(false);
+    }
+    let index = level as usize - 1;
+    let before = &game.queries[index - 1];
+    if !before.list.is_empty() || !is_due(&game.entries, level, before.winner) {
+        return Ok(false);
+    }
+    let query = &game.queries[index];
+    never(alloc, store, &query.list)
+}
+
+// Whether more lies in the regions that decide what is outside those of a level's owner than when
+// this was last asked for: the owner has the newest entry of the level, or the other player one of
+// its first few at the next level, or nothing was asked for yet.
+fn is_due(entries: &Entries, level: u64, owner: Quant) -> bool {
+    let mut due = true;
+    let mut left = MOST_ASKED;
     for number in 0..entries.len() {
         let entry = entries.entry(number);
         if entry.level == level {
-            newest = entry.winner == winner;
+            due = entry.winner == owner;
+        } else if entry.level.wrapping_sub(1) == level && entry.winner != owner && left > 0 {
+            left -= 1;
+            due = true;
         }
     }
-    newest
+    due
 }
 
 // The region that fixes the bits of the point that a core names.

@@ -17,7 +17,8 @@ use Rattle.qv_store.specs.Walks.{named, with_subtrees, IsWalk, IsBehind}
 use Rattle.qv_store.proofs.Sharing.{stands-before}
 use Rattle.qv_store.proofs.Passes.{EachTree, each-subtree, named-at, contains-earlier}
 use Rattle.qv_prenex_laws.proofs.InOrder.{AreRising, in_order-rising}
-use Rattle.qv_prenex.specs.Constants.{own_constants, with_own, leaves, Has, HasSameConstants}
+use Rattle.qv_prenex.specs.declared.constants.Constant.{Constant as Kept}
+use Rattle.qv_prenex.specs.Constants.{pair_of, AreInOrder, own_constants, with_own, leaves, Has, HasSameConstants}
 
 abbrev Pair : Type 0
 Pair = ℕ × Sort
@@ -346,16 +347,36 @@ walk-stand trees old new fs i id lt e behind has h =
     subst (AllStand (named trees new)) (sym longer)
     (stand-both (named trees new) (map (tree_at trees) (take i fs)) (tree_at trees id ∷ []) before ((at.place, here), tt))
 
+-- constants that are kept in order
+kept-above : (n : ℕ) (ks : List Kept) → AllByRecursion (λ p. n < p.0) (map pair_of ks) → (j : ℕ) (d : Kept) → j < length ks → n < (get_or ks j d).index
+kept-above n [] h j d lt = absurd (omega (arith, lt))
+kept-above n (k ∷ ks) h zero d lt = h.0
+kept-above n (k ∷ ks) h (suc j) d lt = kept-above n ks h.1 j d (omega (arith, lt))
+
+kept-rising : (ks : List Kept) → AreRising (map pair_of ks) → AreInOrder ks
+kept-rising [] h i j d lt within = absurd (omega (arith, within))
+kept-rising (k ∷ ks) h i zero d lt within = absurd (omega (arith, lt))
+kept-rising (k ∷ ks) h zero (suc j) d lt within = kept-above k.index ks h.0 j d (omega (arith, within))
+kept-rising (k ∷ ks) h (suc i) (suc j) d lt within = kept-rising ks h.1 i j d (omega (arith, lt)) (omega (arith, within))
+
+pub kept-in-order : (ks : List Kept) (cs : List Pair) → map pair_of ks ≡ in_order cs → AreInOrder ks
+kept-in-order ks cs e = kept-rising ks (subst AreRising (sym e) (in_order-rising cs))
+
+-- a constant's place is behind all those up to one with a smaller index
+pub place-behind : (c : Pair) (ks : List Kept) (at : ℕ) (d : Kept) → AreInOrder ks → at < length ks → (get_or ks at d).index < c.0 →
+    with_constant c (map pair_of ks) ≡ take (at + 1) (map pair_of ks) ++ with_constant c (drop (at + 1) (map pair_of ks))
+place-behind c [] at d rising lt less = absurd (omega (arith, lt))
+place-behind c (k ∷ ks) zero d rising lt less = with-after c (pair_of k) (map pair_of ks) less
+place-behind c (k ∷ ks) (suc at) d rising lt less =
+    let first : k.index < (get_or ks at d).index = rising zero (suc at) d (omega arith) lt in
+    let further : suc (at + 1) ≡ suc at + 1 = omega arith in
+    with-after c (pair_of k) (map pair_of ks) (omega (arith, first, less))
+    ∙ ap (λ xs. pair_of k ∷ xs)
+    (place-behind c ks at d (λ i j e l within. rising (suc i) (suc j) e (omega (arith, l)) (omega (arith, within))) (omega (arith, lt)) less)
+    ∙ ap (λ n. take n (map pair_of (k ∷ ks)) ++ with_constant c (drop n (map pair_of (k ∷ ks)))) further
+
 -- a place among constants
 module _ (c : Pair) (ps : List Pair) (at : ℕ) (front : with_constant c ps ≡ take at ps ++ with_constant c (drop at ps)) where
-  -- one further on
-  pub place-more : at < length ps → (get_or ps at c).0 < c.0 → with_constant c ps ≡ take (at + 1) ps ++ with_constant c (drop (at + 1) ps)
-  place-more lt less =
-      front ∙ ap (λ xs. take at ps ++ with_constant c xs) (drop_more ps at c lt)
-      ∙ ap (λ xs. take at ps ++ xs) (with-after c (get_or ps at c) (drop (at + 1) ps) less)
-      ∙ sym (append_assoc (take at ps) (get_or ps at c ∷ []) (with_constant c (drop (at + 1) ps)))
-      ∙ ap (λ xs. xs ++ with_constant c (drop (at + 1) ps)) (sym (take_more ps at c lt))
-
   -- it is there
   pub place-there : at < length ps → (get_or ps at c).0 ≡ c.0 → ps ≡ with_constant c ps
   place-there lt same =

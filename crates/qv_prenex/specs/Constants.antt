@@ -1,5 +1,5 @@
 -- The constants of trees.
-use Rattle.std.specs.Prelude.{◌≡◌, ◌⊎◌, ℕ, List, [], ◌∷◌, ◌++◌}
+use Rattle.std.specs.Prelude.{◌≡◌, ◌<◌, ◌⊎◌, ℕ, List, [], ◌∷◌, ◌++◌, AllPairs}
 use Rattle.qv_words.specs.declared.sort.Sort.{Sort}
 use Rattle.qv_words.specs.Tree.{Tree, Constant, Variable, Literal, Apply, ForAll, Exists}
 use Rattle.qv_words.specs.Problem.{with_constant}
@@ -8,6 +8,10 @@ use Rattle.qv_prenex.specs.declared.constants.Constant.{Constant as Kept}
 
 abbrev pub pair_of : Kept → ℕ × Sort
 pair_of c = (c.index, c.sort)
+
+-- each index is above those before
+abbrev pub AreInOrder : List Kept → Type 0
+AreInOrder ks = AllPairs (λ k m. k.index < m.index) ks
 
 -- the constant that a tree is
 abbrev pub own_constants : Tree → List (ℕ × Sort)

@@ -10,7 +10,7 @@ ghost use Rattle.qv_words.specs.Tree.{Tree};
 ghost use Rattle.qv_words.specs.Truth.{HaveOneSort, constants_of_each};
 ghost use Rattle.qv_store.specs.Nodes.{node_tree, tree_at};
 ghost use Rattle.qv_store.specs.Walks.{named, IsWalk};
-ghost use Rattle.qv_prenex.specs.Constants.{pair_of, with_own, HasSameConstants};
+ghost use Rattle.qv_prenex.specs.Constants.{pair_of, with_own, AreInOrder, HasSameConstants};
 
 use crate::faults::PrenexFault;
 use qv_store::{Id, NoMemory, Node, Store, Walk};
@@ -67,6 +67,7 @@ fn terms_below(alloc: Global, store: &Store, formulas: &[Id]) -> Result<Walk, No
 
 // Puts a term in its place among the constants if it is one, and isn't there.
 fn put_own(constants: &mut Vec<Constant>, node: &Node) -> Result<(), NoMemory>
+    requires { AreInOrder constants.old.items }
     ensures { OnOk result ((trees : List Tree) → map pair_of constants.new.items
         ≡ with_own (node_tree trees node.now) (map pair_of constants.old.items)) }
 {
@@ -78,6 +79,7 @@ fn put_own(constants: &mut Vec<Constant>, node: &Node) -> Result<(), NoMemory>
 
 // Puts a constant in its place among others in the order of their indices, unless it is there.
 fn put_constant(constants: &mut Vec<Constant>, index: u64, sort: Sort) -> Result<(), NoMemory>
+    requires { AreInOrder constants.old.items }
     ensures { OnOk result (map pair_of constants.new.items
         ≡ with_constant (index, sort) (map pair_of constants.old.items)) }
 {
@@ -89,8 +91,10 @@ fn put_constant(constants: &mut Vec<Constant>, index: u64, sort: Sort) -> Result
     Ok(())
 }
 
-// The first place whose constant's index isn't smaller.
+// The first place whose constant's index isn't smaller. Most constants come in the order of their
+// indices, so the end is looked at first.
 fn place_for(constants: &[Constant], index: u64) -> usize
+    requires { AreInOrder constants.now }
     ensures within { result ≤ length constants.now }
     ensures front { (sort : Sort) → with_constant (index, sort) (map pair_of constants.now)
         ≡ take result (map pair_of constants.now)
@@ -98,12 +102,20 @@ fn place_for(constants: &[Constant], index: u64) -> usize
     ensures least { (d : Constant) → result < length constants.now →
         index ≤ (slice_index_or constants.now result d).index }
 {
-    for (at, constant) in constants.iter().enumerate() {
-        if index <= constant.index {
-            return at;
+    let mut low = 0;
+    let mut high = constants.len();
+    if high > 0 && constants[high - 1].index < index {
+        return high;
+    }
+    'halves: while low < high {
+        let middle = low + (high - low) / 2;
+        if constants[middle].index < index {
+            low = middle + 1;
+        } else {
+            high = middle;
         }
     }
-    constants.len()
+    low
 }
 
 // Whether the constant of this index stands at a place.

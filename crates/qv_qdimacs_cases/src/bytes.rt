@@ -38,3 +38,27 @@ fn escaped(text: &str) -> Option<(u8, &str)> {
         _ => None,
     }
 }
+
+/// Says bytes as a case writes them, between quotes.
+pub fn say_quoted(out: &mut Answer, bytes: &[u8]) {
+    out.put('"');
+    say_bytes(out, bytes);
+    out.put('"');
+}
+
+/// The same without quotes.
+pub fn say_bytes(out: &mut Answer, bytes: &[u8]) {
+    for byte in bytes {
+        say_byte(out, *byte);
+    }
+}
+
+fn say_byte(out: &mut Answer, byte: u8) {
+    match byte {
+        b'\t' => out.say("\\t"),
+        b'\n' => out.say("\\n"),
+        b'\r' => out.say("\\r"),
+        b'"' | b'\\' | 0..=31 | 127..=255 => out.escape(byte),
+        other => out.put(char::from(other)),
+    }
+}

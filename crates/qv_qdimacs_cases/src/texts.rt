@@ -22,8 +22,8 @@ pub fn say_text(alloc: Global, words: &mut Words<'_>, out: &mut Answer) {
     }
 }
 
-// Numbers between commas, or `-` for none.
-fn numbers(alloc: Global, text: &str, out: &mut Answer) -> Vec<u64> {
+/// Numbers between commas, or `-` for none.
+pub fn numbers(alloc: Global, text: &str, out: &mut Answer) -> Vec<u64> {
     let mut numbers = Vec::new(alloc);
     if text != "-" {
         for number in text.split(',') {
@@ -88,7 +88,8 @@ fn say_clauses(clauses: &Packed, out: &mut Answer) {
     }
 }
 
-fn say_clause(clause: &[Lit], out: &mut Answer) {
+/// Says a clause with its `0`, each word behind a blank.
+pub fn say_clause(clause: &[Lit], out: &mut Answer) {
     for lit in clause {
         out.put(' ');
         out.show(lit.number());

@@ -4,6 +4,7 @@ ghost use Rattle.std.specs.Prelude.{◌<◌, All, IfSome, length};
 ghost use Rattle.qv_words.specs.Tree.{IsQuantifierFree};
 ghost use Rattle.qv_store.specs.Nodes.{tree_at};
 
+use crate::posed::{Part, say_posed};
 use qv_cases_rows::{Answer, Cases, Words};
 use qv_cases_terms::{
     is_plain, say_term, say_terms, say_word, term, terms, value, words as parse_words,
@@ -16,6 +17,24 @@ use qv_words::Word;
 use std::alloc::Global;
 use std::str;
 
+enum Call {
+    Name,
+    Pass,
+    Simplify,
+    At,
+    Prenex(Part),
+}
+
+static CALLS: [(&str, Call); 7] = [
+    ("name", Call::Name),
+    ("pass", Call::Pass),
+    ("simplify", Call::Simplify),
+    ("at", Call::At),
+    ("prenex", Call::Prenex(Part::Whole)),
+    ("count", Call::Prenex(Part::Counts)),
+    ("within", Call::Prenex(Part::Within)),
+];
+
 /// The cases have no state.
 #[derive(Clone, Copy)]
 pub struct RewriteCases {
@@ -25,12 +44,13 @@ pub struct RewriteCases {
 impl Cases for RewriteCases {
     fn answer(&mut self, words: &mut Words<'_>, out: &mut Answer) {
         let mut store = Store::new(self.alloc);
-        match words.next() {
-            "name" => name_row(out, words.next()),
-            "pass" => pass_row(self.alloc, out, &mut store, words),
-            "simplify" => simplify_row(self.alloc, out, &mut store, words.rest()),
-            "at" => at_row(self.alloc, out, &mut store, words),
-            _ => out.refuse(),
+        match words.pick(&CALLS) {
+            Some(Call::Name) => name_row(out, words.next()),
+            Some(Call::Pass) => pass_row(self.alloc, out, &mut store, words),
+            Some(Call::Simplify) => simplify_row(self.alloc, out, &mut store, words.rest()),
+            Some(Call::At) => at_row(self.alloc, out, &mut store, words),
+            Some(Call::Prenex(part)) => say_posed(self.alloc, *part, &mut store, words, out),
+            None => out.refuse(),
         }
     }
 }

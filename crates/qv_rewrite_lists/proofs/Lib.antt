@@ -1,3 +1,3 @@
 pub mod Plain
-pub mod Summing
+pub mod Making
 pub mod Further

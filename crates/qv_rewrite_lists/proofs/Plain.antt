@@ -11,9 +11,11 @@ use Rattle.qv_store.specs.Nodes.{tree_at}
 use Rattle.qv_store.specs.Stores.{AreShared}
 use Rattle.qv_store.specs.Walks.{named}
 use Rattle.qv_rewrite_passes.specs.declared.pass.Pass.{Pass}
-use Rattle.qv_rewrite_passes.specs.declared.pass.Pass.TheVariants.{By, Sum}
+use Rattle.qv_rewrite_passes.specs.declared.pass.Pass.TheVariants.{By, Sum, Xor, Simp}
 use Rattle.qv_rewrite_passes.specs.Passes.{behind}
 use Rattle.qv_rewrite_passes.proofs.SumPass.{pass-stands as sums-stand}
+use Rattle.qv_rewrite_passes.proofs.XorPass.{pass-stands as xors-stand}
+use Rattle.qv_rewrite_passes.proofs.Simping.{pass-stands as simps-stand}
 
 plain-there : (trees : List Tree) (ids : List ℕ) → AreShared trees → AllByRecursion (λ id. id < length trees) ids → AllByRecursion (λ id. IsQuantifierFree (tree_at trees id)) ids → AllByRecursion IsPlain (named trees ids)
 plain-there trees [] shared below free = tt
@@ -31,6 +33,8 @@ free-each trees (id ∷ ids) h = (h.0, free-each trees ids h.1)
 stands : (p : Pass) (ts : List Tree) → AllByRecursion IsPlain ts → AllZip StandsFor (behind p ts) ts
 stands (By rule) ts h = pass-stands (rules-keep (λ a b. refl) (λ a b. refl)) rule ts h
 stands Sum ts h = sums-stand ts h
+stands Xor ts h = xors-stand ts h
+stands Simp ts h = simps-stand ts h
 
 pub taken-free : (p : Pass) (old new : List Tree) (ids made : List ℕ) → AreShared old → All (λ id. id < length old) ids → All (λ id. IsQuantifierFree (tree_at old id)) ids → named new made ≡ behind p (named old ids) →
     All (λ id. IsQuantifierFree (tree_at new id)) made

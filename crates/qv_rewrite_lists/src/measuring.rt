@@ -7,8 +7,27 @@ use qv_store::{Id, NoMemory, Node, Store, Walk};
 use qv_words::Op;
 use std::alloc::Global;
 
-// Formulas with more distinct terms aren't given to the pass of sums.
+// Formulas with more distinct terms go through the ten rules alone.
 const MOST_TERMS: usize = 200_000;
+
+// Operators of one kind.
+#[derive(Clone, Copy)]
+enum Kind {
+    // Those that make sums and products.
+    Sum,
+    // Those that make chains of exclusive or.
+    Xor,
+}
+
+impl Kind {
+    // Whether an operator is of this kind.
+    fn has(self, op: Op) -> bool {
+        match self {
+            Kind::Sum => matches!(op, Op::BvAdd | Op::BvSub | Op::BvNeg | Op::BvMul),
+            Kind::Xor => matches!(op, Op::Xor | Op::BvXor | Op::BvXnor),
+        }
+    }
+}
 
 // What the distinct terms of a list of formulas are.
 #[derive(Clone, Copy)]
@@ -17,6 +36,8 @@ pub(crate) struct Measure {
     pub(crate) known: bool,
     // It has an addition, a subtraction, an opposite or a multiplication.
     pub(crate) sums: bool,
+    // It has an exclusive or, or an exclusive nor.
+    pub(crate) xors: bool,
     // How many multiplications it has of two terms that are no literals.
     pub(crate) products: usize,
     // How many terms it has.
@@ -24,9 +45,9 @@ pub(crate) struct Measure {
 }
 
 impl Measure {
-    // Whether the pass of sums is tried.
-    pub(crate) fn suits_sums(&self) -> bool {
-        self.sums && self.terms <= MOST_TERMS
+    // Whether passes are tried behind the rules.
+    pub(crate) fn is_small(&self) -> bool {
+        self.terms <= MOST_TERMS
     }
 
     // Whether a list looks easier than another.
@@ -49,7 +70,8 @@ pub(crate) fn measure_list(alloc: Global, store: &Store, list: &[Id]) -> Result<
     visit_all(&mut walk, store, list)?;
     Ok(Measure {
         known: has_literal(store, list),
-        sums: has_sum(store, &walk),
+        sums: has_kind(store, &walk, Kind::Sum),
+        xors: has_kind(store, &walk, Kind::Xor),
         products: count_products(store, &walk),
         terms: walk.len(),
     })
@@ -79,23 +101,18 @@ fn has_literal(store: &Store, list: &[Id]) -> bool
     false
 }
 
-// Whether the pass of sums may change one of the terms.
-fn has_sum(store: &Store, walk: &Walk) -> bool
+// Whether one of the terms has an operator of a kind.
+fn has_kind(store: &Store, walk: &Walk, kind: Kind) -> bool
     requires { IsWalk store.now walk.now }
 {
     'terms: for id in walk.ids() {
         if let Node::App { op, .. } = store.node(*id)
-            && is_sum(*op)
+            && kind.has(*op)
         {
             return true;
         }
     }
     false
-}
-
-// Whether an operator makes sums and products.
-fn is_sum(op: Op) -> bool {
-    matches!(op, Op::BvAdd | Op::BvSub | Op::BvNeg | Op::BvMul)
 }
 
 // How many multiplications of two terms that are no literals the terms are.

@@ -15,8 +15,46 @@ use qv_store::{Id, NoMemory, Store};
 use qv_words::RULES;
 use std::alloc::Global;
 
-// How often the pass of sums is tried, each time with the ten rules behind it.
+// How often the passes of a trial are taken, each time with the rules behind them.
 const ROUNDS: u32 = 4;
+
+// Which passes are tried in front of that of small rules and the ten rules.
+#[derive(Clone, Copy)]
+enum Trial {
+    // None.
+    Plain,
+    // That of sums, then that of exclusive or.
+    Both,
+    // That of sums alone.
+    Sums,
+    // That of exclusive or alone.
+    Xors,
+}
+
+// The trials in their order.
+const TRIALS: [Trial; 4] = [Trial::Plain, Trial::Both, Trial::Sums, Trial::Xors];
+
+impl Trial {
+    // Whether a list has what its passes change.
+    fn suits(self, list: &Measure) -> bool {
+        match self {
+            Trial::Plain => true,
+            Trial::Both => list.sums && list.xors,
+            Trial::Sums => list.sums,
+            Trial::Xors => list.xors,
+        }
+    }
+
+    // Whether it takes the pass of sums.
+    fn has_sums(self) -> bool {
+        matches!(self, Trial::Both | Trial::Sums)
+    }
+
+    // Whether it takes the pass of exclusive or.
+    fn has_xors(self) -> bool {
+        matches!(self, Trial::Both | Trial::Xors)
+    }
+}
 
 /// Formulas behind passes, and these passes, each of which changes the list.
 #[derive(Debug, Drop)]
@@ -25,9 +63,10 @@ pub struct Rewritten {
     pub list: Vec<Id>,
 }
 
-/// The formulas behind the passes that pay: the ten rules in their order, and the pass of sums with
-/// the ten rules behind it where that leaves fewer multiplications or fewer terms. Also where
-/// memory runs out the store keeps what was put.
+/// The formulas behind the passes that pay: the ten rules in their order, and, where that leaves
+/// fewer multiplications or fewer terms, the pass of small rules with the ten rules behind it, alone
+/// or behind the passes of sums and of exclusive or. Also where memory runs out the store keeps what
+/// was put.
 pub fn rewrite(alloc: Global, store: &mut Store, list: Vec<Id>) -> Result<Rewritten, NoMemory>
     requires below { All (λ id. id < length store.old) list.items }
     requires free { All (λ id. IsQuantifierFree (tree_at store.old id)) list.items }
@@ -45,40 +84,62 @@ pub fn rewrite(alloc: Global, store: &mut Store, list: Vec<Id>) -> Result<Rewrit
         list,
     };
     take_rules(alloc, store, &mut made)?;
-    try_sums(alloc, store, &mut made)?;
+    try_each(alloc, store, &mut made)?;
     Ok(made)
 }
 
-// The pass of sums with the rules behind it, where that pays.
-fn try_sums(alloc: Global, store: &mut Store, made: &mut Rewritten) -> Result<(), NoMemory>
+// The trials one after the other, each where it pays.
+fn try_each(alloc: Global, store: &mut Store, made: &mut Rewritten) -> Result<(), NoMemory>
     requires { AreFormulas store.old made.old.list.items }
     ensures further { OnOk result (IsFurther store.old store.new made.old made.new) }
     ensures grows { Grows store.old store.new }
 {
-    let before = measure_list(alloc, store, &made.list)?;
-    if before.suits_sums() {
-        take_better(alloc, store, made, &before)
+    let mut measure = measure_list(alloc, store, &made.list)?;
+    if measure.is_small() {
+        'trials: for trial in &TRIALS {
+            try_one(alloc, store, *trial, made, &mut measure)?;
+        }
+    }
+    Ok(())
+}
+
+// A trial where it suits a list that was measured.
+fn try_one(
+    alloc: Global,
+    store: &mut Store,
+    trial: Trial,
+    made: &mut Rewritten,
+    measure: &mut Measure,
+) -> Result<(), NoMemory>
+    requires { AreFormulas store.old made.old.list.items }
+    ensures further { OnOk result (IsFurther store.old store.new made.old made.new) }
+    ensures grows { Grows store.old store.new }
+{
+    if trial.suits(measure) {
+        take_better(alloc, store, trial, made, measure)
     } else {
         Ok(())
     }
 }
 
-// The same, where that leaves a better list than this one.
+// What a trial makes of a list, where that looks better.
 fn take_better(
     alloc: Global,
     store: &mut Store,
+    trial: Trial,
     made: &mut Rewritten,
-    before: &Measure,
+    measure: &mut Measure,
 ) -> Result<(), NoMemory>
     requires { AreFormulas store.old made.old.list.items }
     ensures further { OnOk result (IsFurther store.old store.new made.old made.new) }
     ensures grows { Grows store.old store.new }
 {
     let mut tried = copy(alloc, made)?;
-    take_rounds(alloc, store, &mut tried)?;
+    take_rounds(alloc, store, trial, &mut tried)?;
     let behind = measure_list(alloc, store, &tried.list)?;
-    if behind.is_better(before) {
+    if behind.is_better(measure) {
         *made = tried;
+        *measure = behind;
     }
     Ok(())
 }
@@ -95,14 +156,19 @@ fn copy(alloc: Global, made: &Rewritten) -> Result<Rewritten, NoMemory>
 }
 
 // Rounds until nothing changes.
-fn take_rounds(alloc: Global, store: &mut Store, made: &mut Rewritten) -> Result<(), NoMemory>
+fn take_rounds(
+    alloc: Global,
+    store: &mut Store,
+    trial: Trial,
+    made: &mut Rewritten,
+) -> Result<(), NoMemory>
     requires { AreFormulas store.old made.old.list.items }
     ensures further { OnOk result (IsFurther store.old store.new made.old made.new) }
     ensures grows { Grows store.old store.new }
 {
     'rounds: for _round in 0..ROUNDS {
         let count = made.passes.len();
-        take_round(alloc, store, made)?;
+        take_round(alloc, store, trial, made)?;
         if made.passes.len() == count {
             return Ok(());
         }
@@ -110,14 +176,40 @@ fn take_rounds(alloc: Global, store: &mut Store, made: &mut Rewritten) -> Result
     Ok(())
 }
 
-// The pass of sums, and the rules in their order.
-fn take_round(alloc: Global, store: &mut Store, made: &mut Rewritten) -> Result<(), NoMemory>
+// The passes of a trial, that of small rules, and the rules in their order.
+fn take_round(
+    alloc: Global,
+    store: &mut Store,
+    trial: Trial,
+    made: &mut Rewritten,
+) -> Result<(), NoMemory>
     requires { AreFormulas store.old made.old.list.items }
     ensures further { OnOk result (IsFurther store.old store.new made.old made.new) }
     ensures grows { Grows store.old store.new }
 {
-    take_one(alloc, store, Pass::Sum, made)?;
+    take_where(alloc, store, trial.has_sums(), Pass::Sum, made)?;
+    take_where(alloc, store, trial.has_xors(), Pass::Xor, made)?;
+    take_one(alloc, store, Pass::Simp, made)?;
     take_rules(alloc, store, made)
+}
+
+// A pass where it is wanted.
+fn take_where(
+    alloc: Global,
+    store: &mut Store,
+    wanted: bool,
+    pass: Pass,
+    made: &mut Rewritten,
+) -> Result<(), NoMemory>
+    requires { AreFormulas store.old made.old.list.items }
+    ensures further { OnOk result (IsFurther store.old store.new made.old made.new) }
+    ensures grows { Grows store.old store.new }
+{
+    if wanted {
+        take_one(alloc, store, pass, made)
+    } else {
+        Ok(())
+    }
 }
 
 // The ten rules in their order.

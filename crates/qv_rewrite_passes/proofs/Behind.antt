@@ -11,9 +11,11 @@ use Rattle.qv_words.proofs.PassLeaves.{among-trans}
 use Rattle.qv_words.proofs.PassRules.{rules-keep}
 use Rattle.qv_words.proofs.Passed.{pass-stands as rule-stands}
 use Rattle.qv_rewrite_passes.specs.declared.pass.Pass.{Pass}
-use Rattle.qv_rewrite_passes.specs.declared.pass.Pass.TheVariants.{By, Sum}
+use Rattle.qv_rewrite_passes.specs.declared.pass.Pass.TheVariants.{By, Sum, Xor, Simp}
 use Rattle.qv_rewrite_passes.specs.Passes.{behind, behind_all}
 use Rattle.qv_rewrite_passes.proofs.SumPass.{pass-stands as sum-stands}
+use Rattle.qv_rewrite_passes.proofs.XorPass.{pass-stands as xor-stands}
+use Rattle.qv_rewrite_passes.proofs.Simping.{pass-stands as simp-stands}
 
 among : (xs ys zs : List (ℕ × Sort)) → All (Contains ys) xs → All (Contains zs) ys → All (Contains zs) xs
 among xs ys zs f g = All-from_recursion (Contains zs) xs (among-trans xs ys zs (recursion_from_All (Contains ys) xs f) (recursion_from_All (Contains zs) ys g))
@@ -63,6 +65,8 @@ all-trans (x ∷ xs) [] _ f g = absurd g
 pub behind-stands : (p : Pass) (ts : List Tree) → AllByRecursion IsPlain ts → AllZip StandsFor (behind p ts) ts
 behind-stands (By rule) ts h = rule-stands (rules-keep (λ a b. refl) (λ a b. refl)) rule ts h
 behind-stands Sum ts h = sum-stands ts h
+behind-stands Xor ts h = xor-stands ts h
+behind-stands Simp ts h = simp-stands ts h
 
 pub all-stand : (ps : List Pass) (ts : List Tree) → AllByRecursion IsPlain ts → AllZip StandsFor (behind_all ps ts) ts
 all-stand [] ts h = all-itself ts h

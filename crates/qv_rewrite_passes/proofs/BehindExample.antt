@@ -2,20 +2,20 @@
 use Rattle.std.proofs.Common.{◌≡◌, Some, None, [], ◌∷◌, map, refl}
 use Rattle.std.specs.Prelude.{codes}
 use Rattle.qv_words.specs.declared.sort.Sort.TheVariants.{Bool, Bits}
-use Rattle.qv_words.specs.declared.op.Op.TheVariants.{Equal, BvAdd}
+use Rattle.qv_words.specs.declared.op.Op.TheVariants.{Equal, BvAdd, BvXor}
 use Rattle.qv_words.specs.declared.rule.Rule.TheVariants.{Fold, Same, MulZero}
 use Rattle.qv_words.specs.Tree.{Tree, Variable, Literal}
 use Rattle.qv_words.specs.Prenex.{binary}
 use Rattle.qv_words.specs.Rules.{rule_named}
-use Rattle.qv_rewrite_passes.specs.declared.pass.Pass.TheVariants.{By, Sum}
+use Rattle.qv_rewrite_passes.specs.declared.pass.Pass.TheVariants.{By, Sum, Xor, Simp}
 use Rattle.qv_rewrite_passes.specs.Passes.{behind, behind_all}
 use Rattle.qv_rewrite_passes.specs.Names.{name_of_pass, pass_named}
 
-named : map pass_named (codes "sum" ∷ codes "fold" ∷ codes "same" ∷ codes "mul-zero" ∷ codes "su" ∷ codes "summ" ∷ codes "Sum" ∷ codes "" ∷ []) ≡ Some Sum ∷ Some (By Fold) ∷ Some (By Same) ∷ Some (By MulZero) ∷ None ∷ None ∷ None ∷ None ∷ []
+named : map pass_named (codes "sum" ∷ codes "fold" ∷ codes "same" ∷ codes "mul-zero" ∷ codes "xor" ∷ codes "simp" ∷ codes "xo" ∷ codes "sim" ∷ codes "su" ∷ codes "summ" ∷ codes "Sum" ∷ codes "" ∷ []) ≡ Some Sum ∷ Some (By Fold) ∷ Some (By Same) ∷ Some (By MulZero) ∷ Some Xor ∷ Some Simp ∷ None ∷ None ∷ None ∷ None ∷ None ∷ None ∷ []
 unfolding rule_named
 named = refl
 
-names : map name_of_pass (Sum ∷ By Fold ∷ By MulZero ∷ []) ≡ codes "sum" ∷ codes "fold" ∷ codes "mul-zero" ∷ []
+names : map name_of_pass (Sum ∷ Xor ∷ Simp ∷ By Fold ∷ By MulZero ∷ []) ≡ codes "sum" ∷ codes "xor" ∷ codes "simp" ∷ codes "fold" ∷ codes "mul-zero" ∷ []
 names = refl
 
 abbrev x : Tree
@@ -39,6 +39,16 @@ yes = Literal Bool 1
 one : behind Sum (turned ∷ alike ∷ []) ≡ yes ∷ yes ∷ []
 unfolding lib.Count.ones
 one = refl
+
+-- and that of exclusive or through another
+abbrev flipped : Tree
+flipped = binary Equal (binary BvXor x y) (binary BvXor y x)
+
+by-xor : behind Xor (flipped ∷ alike ∷ []) ≡ binary Equal (binary BvXor x y) (binary BvXor x y) ∷ alike ∷ []
+by-xor = refl
+
+xor-in-turn : behind_all (Xor ∷ By Same ∷ []) (flipped ∷ []) ≡ yes ∷ []
+xor-in-turn = refl
 
 by-rule : behind (By Same) (turned ∷ alike ∷ []) ≡ turned ∷ yes ∷ []
 by-rule = refl

@@ -51,12 +51,10 @@ two-alike_rank w = rw (test-refl w) refl
 abbrev IsOfWords : Op → ℕ → Type 0
 IsOfWords o w = result_sort o (Bits w ∷ Bits w ∷ []) ≡ Some (Bits w)
 
-binary-sort : (o : Op) (w : ℕ) (s : Sort) (a b : Tree) → tree_sort a ≡ Some (Bits w) → tree_sort b ≡ Some (Bits w) → result_sort o (Bits w ∷ Bits w ∷ []) ≡ Some s → tree_sort (binary o a b) ≡ Some s
-binary-sort o w s a b f g rank = rw (f, g) rank
-
-pub over-binary : (cs vs : List (ℕ × Sort)) (o : Op) (w : ℕ) (s : Sort) (a b : Tree) → result_sort o (Bits w ∷ Bits w ∷ []) ≡ Some s → IsWord cs vs w a → IsWord cs vs w b → IsOver cs vs s (binary o a b)
-over-binary cs vs o w s a b rank f g =
-    let is : tree_sort (binary o a b) ≡ Some s = binary-sort o w s a b f.sort g.sort rank in
+-- an application of two trees, and of one
+pub over-two : (cs vs : List (ℕ × Sort)) (o : Op) (x y s : Sort) (a b : Tree) → result_sort o (x ∷ y ∷ []) ≡ Some s → IsOver cs vs x a → IsOver cs vs y b → IsOver cs vs s (binary o a b)
+over-two cs vs o x y s a b rank f g =
+    let is : tree_sort (binary o a b) ≡ Some s = rw (f.sort, g.sort) rank in
     record {
       sorted = ((f.sorted, (g.sorted, tt)), subst IsSome (sym is) refl);
       free = (f.free, (g.free, tt));
@@ -67,12 +65,9 @@ over-binary cs vs o w s a b rank f g =
       };
     }
 
-pub meaning-binary : (c : List ℕ) (e : ℕ → Option ℕ) (o : Op) (s t : Sort) (a b : Tree) → tree_sort a ≡ Some s → tree_sort b ≡ Some t → meaning c e (binary o a b) ≡ op_value o (s ∷ t ∷ []) (meaning c e a ∷ meaning c e b ∷ [])
-meaning-binary c e o s t a b f g = rw (f, g) refl
-
-pub over-unary : (cs vs : List (ℕ × Sort)) (o : Op) (w : ℕ) (a : Tree) → result_sort o (Bits w ∷ []) ≡ Some (Bits w) → IsWord cs vs w a → IsWord cs vs w (unary o a)
-over-unary cs vs o w a rank f =
-    let is : tree_sort (unary o a) ≡ Some (Bits w) = rw f.sort rank in
+pub over-one : (cs vs : List (ℕ × Sort)) (o : Op) (x s : Sort) (a : Tree) → result_sort o (x ∷ []) ≡ Some s → IsOver cs vs x a → IsOver cs vs s (unary o a)
+over-one cs vs o x s a rank f =
+    let is : tree_sort (unary o a) ≡ Some s = rw f.sort rank in
     record {
       sorted = ((f.sorted, tt), subst IsSome (sym is) refl);
       free = (f.free, tt);
@@ -82,6 +77,15 @@ over-unary cs vs o w a rank f =
         variables_in = both (Contains vs) (free_levels a) [] f.leaves.variables_in tt;
       };
     }
+
+pub over-binary : (cs vs : List (ℕ × Sort)) (o : Op) (w : ℕ) (s : Sort) (a b : Tree) → result_sort o (Bits w ∷ Bits w ∷ []) ≡ Some s → IsWord cs vs w a → IsWord cs vs w b → IsOver cs vs s (binary o a b)
+over-binary cs vs o w s a b rank f g = over-two cs vs o (Bits w) (Bits w) s a b rank f g
+
+pub meaning-binary : (c : List ℕ) (e : ℕ → Option ℕ) (o : Op) (s t : Sort) (a b : Tree) → tree_sort a ≡ Some s → tree_sort b ≡ Some t → meaning c e (binary o a b) ≡ op_value o (s ∷ t ∷ []) (meaning c e a ∷ meaning c e b ∷ [])
+meaning-binary c e o s t a b f g = rw (f, g) refl
+
+pub over-unary : (cs vs : List (ℕ × Sort)) (o : Op) (w : ℕ) (a : Tree) → result_sort o (Bits w ∷ []) ≡ Some (Bits w) → IsWord cs vs w a → IsWord cs vs w (unary o a)
+over-unary cs vs o w a rank f = over-one cs vs o (Bits w) (Bits w) a rank f
 
 pub meaning-unary : (c : List ℕ) (e : ℕ → Option ℕ) (o : Op) (s : Sort) (a : Tree) → tree_sort a ≡ Some s → meaning c e (unary o a) ≡ op_value o (s ∷ []) (meaning c e a ∷ [])
 meaning-unary c e o s a f = rw f refl

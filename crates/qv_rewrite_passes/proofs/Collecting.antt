@@ -62,7 +62,7 @@ pub fit-collected : (cs vs : List (ℕ × Sort)) (w : ℕ) (p : Polynomial) → 
 fit-collected cs vs w p h = fit-fold cs vs w [] p tt h
 
 -- over more leaves
-over-weaker : (cs vs ds ws : List (ℕ × Sort)) (s : Sort) (u : Tree) → Among cs ds → Among vs ws → IsOver cs vs s u → IsOver ds ws s u
+pub over-weaker : (cs vs ds ws : List (ℕ × Sort)) (s : Sort) (u : Tree) → Among cs ds → Among vs ws → IsOver cs vs s u → IsOver ds ws s u
 over-weaker cs vs ds ws s u f g k = record { sorted = k.sorted; free = k.free; sort = k.sort; leaves = leaves-trans u cs vs ds ws k.leaves f g }
 
 fit-weaker : (cs vs ds ws : List (ℕ × Sort)) (w : ℕ) (p : Polynomial) → Among cs ds → Among vs ws → AllFit cs vs w p → AllFit ds ws w p
@@ -72,10 +72,10 @@ fit-weaker cs vs ds ws w p f g h =
       factors = all-weaker (IsWord cs vs w) (IsWord ds ws w) m.factors (λ u o. over-weaker cs vs ds ws (Bits w) u f g o) k.factors;
     }) h
 
-left-among : (xs ys : List (ℕ × Sort)) → Among xs (xs ++ ys)
+pub left-among : (xs ys : List (ℕ × Sort)) → Among xs (xs ++ ys)
 left-among xs ys = all-weaker (Contains xs) (Contains (xs ++ ys)) xs (λ x h. Contains-append_left xs ys x h) (recursion_from_All (Contains xs) xs (All-contains_itself xs))
 
-right-among : (xs ys : List (ℕ × Sort)) → Among ys (xs ++ ys)
+pub right-among : (xs ys : List (ℕ × Sort)) → Among ys (xs ++ ys)
 right-among xs ys = all-weaker (Contains ys) (Contains (xs ++ ys)) ys (λ x h. Contains-append_right xs ys x h) (recursion_from_All (Contains ys) ys (All-contains_itself ys))
 
 -- a sum over the leaves of the first tree of a list, and of others

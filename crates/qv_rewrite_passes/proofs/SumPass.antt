@@ -16,7 +16,7 @@ use Rattle.qv_rewrite_passes.proofs.Representing.{summed-same}
 valued : (c : List ℕ) (e : ℕ → Option ℕ) (t : Tree) → HasValues c e t → Valued c e t
 valued c e t h = (recursion_from_All (HasConstant c) (constants_of t) h.constants, recursion_from_All (HasValue e) (free_levels t) h.levels)
 
-stands : (t u : Tree) → IsPlain t → Same t u → StandsFor u t
+pub stands : (t u : Tree) → IsPlain t → Same t u → StandsFor u t
 stands t u h k = record {
   plain = record { sorted = k.sorted; free = k.free };
   sort = k.sort;

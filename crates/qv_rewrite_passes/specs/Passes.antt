@@ -4,12 +4,16 @@ use Rattle.qv_words.specs.Tree.{Tree}
 use Rattle.qv_words.specs.Passes.{pass}
 use Rattle.qv_words.specs.Sums.{sum_pass}
 use Rattle.qv_rewrite_passes.specs.declared.pass.Pass.{Pass}
-use Rattle.qv_rewrite_passes.specs.declared.pass.Pass.TheVariants.{By, Sum}
+use Rattle.qv_rewrite_passes.specs.declared.pass.Pass.TheVariants.{By, Sum, Xor, Simp}
+use Rattle.qv_rewrite_passes.specs.Xors.{xor_pass}
+use Rattle.qv_rewrite_passes.specs.Simps.{simp_pass}
 
 -- what one pass makes of a list, and what passes make of it one after the other
 abbrev pub behind : Pass → List Tree → List Tree
 behind (By rule) formulas = pass rule formulas
 behind Sum formulas = sum_pass formulas
+behind Xor formulas = xor_pass formulas
+behind Simp formulas = simp_pass formulas
 
 abbrev pub behind_all : List Pass → List Tree → List Tree
 behind_all [] formulas = formulas

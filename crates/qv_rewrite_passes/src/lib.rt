@@ -2,6 +2,8 @@
 #![tactic(auto)]
 
 pub mod laws;
+mod outcome;
 mod pass;
 
+pub use outcome::Outcome;
 pub use pass::{Pass, name_of_pass, pass_named};

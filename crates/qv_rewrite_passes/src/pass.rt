@@ -12,6 +12,10 @@ pub enum Pass {
     By(Rule),
     /// Each word becomes the term of a sum of products modulo a power of two.
     Sum,
+    /// Each term becomes that of a chain of exclusive or.
+    Xor,
+    /// Each application is rewritten by small rules.
+    Simp,
 }
 
 /// The name of a pass.
@@ -21,6 +25,8 @@ pub fn name_of_pass(pass: Pass) -> &'static [u8]
     match pass {
         Pass::By(rule) => name_of_rule(rule),
         Pass::Sum => b"sum",
+        Pass::Xor => b"xor",
+        Pass::Simp => b"simp",
     }
 }
 
@@ -30,6 +36,10 @@ pub fn pass_named(name: &[u8]) -> Option<Pass>
 {
     if name == b"sum".as_slice() {
         Some(Pass::Sum)
+    } else if name == b"xor".as_slice() {
+        Some(Pass::Xor)
+    } else if name == b"simp".as_slice() {
+        Some(Pass::Simp)
     } else {
         rule_named(name).map(Pass::By)
     }

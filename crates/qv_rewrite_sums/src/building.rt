@@ -267,14 +267,8 @@ fn put_word(alloc: Global, store: &mut Store, op: Op, width: u8, a: Id) -> Resul
     store.put(Node::App { op, kids })
 }
 
-// An operator's application to two terms.
-pub(crate) fn put_two(
-    alloc: Global,
-    store: &mut Store,
-    op: Op,
-    a: Id,
-    b: Id,
-) -> Result<Id, NoMemory>
+/// An operator's application to two terms.
+pub fn put_two(alloc: Global, store: &mut Store, op: Op, a: Id, b: Id) -> Result<Id, NoMemory>
     requires a { a < length store.old }
     requires b { b < length store.old }
     requires sorted { IsSorted (binary op (tree_at store.old a) (tree_at store.old b)) }

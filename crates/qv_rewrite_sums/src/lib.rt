@@ -11,5 +11,8 @@ mod product;
 mod summing;
 mod zero;
 
+pub use building::put_two;
+pub use numbers::ones;
+pub use ordering::terms_in_order;
 pub use qv_store::NoMemory;
 pub use summing::sum;

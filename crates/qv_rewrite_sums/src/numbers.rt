@@ -3,8 +3,8 @@
 ghost use Rattle.std.specs.Prelude.{◌≡◌, ◌+◌, ◌*◌, ◌%◌, ◌^◌, ◌≤◌, ◌<◌, nat_lt, count_ones};
 ghost use Rattle.qv_words.specs.Signed.{negated};
 
-// The greatest number of a width: all its bits are ones.
-pub(crate) fn ones(width: u8) -> u128
+/// The greatest number of a width: all its bits are ones.
+pub fn ones(width: u8) -> u128
     requires low { 1 ≤ width }
     requires high { width ≤ 128 }
     ensures { result + 1 ≡ 2 ^ width }

@@ -28,7 +28,7 @@ pub(crate) fn with_order(
     'left: while left > 0 {
         left -= 1;
         let one = &sum[left];
-        let factors = factors_in_order(alloc, store, one.factors.as_slice())?;
+        let factors = terms_in_order(alloc, store, one.factors.as_slice())?;
         let next = Product {
             coefficient: one.coefficient,
             factors,
@@ -74,7 +74,9 @@ fn factors_before(store: &Store, a: &[Id], b: &[Id]) -> bool
     false
 }
 
-fn factors_in_order(
+/// Terms in order: constants by their indices, variables by their levels, and then all others as
+/// they stand.
+pub fn terms_in_order(
     alloc: Global,
     store: &Store,
     factors: &[Id],

@@ -32,6 +32,9 @@ pub(crate) struct Restarts {
     // How many restarts there were, and how many conflicts at the last.
     pub(crate) count: u64,
     last: u64,
+    // How many literals conflicts took back, while variables were decided in turn and else.
+    in_turn: u64,
+    else_taken: u64,
     fast: u64,
     slow: u64,
     // Over how many conflicts the slow average goes.
@@ -44,6 +47,8 @@ impl Restarts {
             conflicts: 0,
             count: 0,
             last: 0,
+            in_turn: 0,
+            else_taken: 0,
             fast: 0,
             slow: 0,
             window: 2,
@@ -71,9 +76,22 @@ impl Restarts {
             && self.fast > (self.slow / 100).saturating_mul(110)
     }
 
-    // Whether variables are decided in turn now.
+    // Notes how many literals a conflict takes back.
+    pub(crate) fn weigh(&mut self, taken: usize) {
+        let taken = taken as u64;
+        if self.is_in_turn() {
+            self.in_turn = self.in_turn.saturating_add(taken);
+        } else {
+            self.else_taken = self.else_taken.saturating_add(taken);
+        }
+    }
+
+    // Whether variables are decided in turn now: while that takes back no more than twice what was
+    // taken back else.
     fn is_in_turn(&self) -> bool {
-        FIRST_IN_TURN <= self.conflicts && self.conflicts < END_OF_TURN
+        FIRST_IN_TURN <= self.conflicts
+            && self.conflicts < END_OF_TURN
+            && self.in_turn <= self.else_taken.saturating_mul(2)
     }
 
     // Notes a restart.

@@ -226,7 +226,10 @@ impl Solver {
             .note(&self.trail, id, &learnt.lits, &learnt.hints)?;
         self.restarts.note(lbd);
         self.chooser.bump(self.learner.met());
+        let trues = self.trail.order().len();
         self.chooser.take_back(&mut self.trail, learnt.level);
+        self.restarts
+            .weigh(trues.saturating_sub(self.trail.order().len()));
         self.trail.attach(id, &learnt.lits)?;
         let charge = budget.conflict(&self.base, &self.steps, id, &learnt.lits, &learnt.hints);
         if let Err(spent) = charge {

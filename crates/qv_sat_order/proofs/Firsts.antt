@@ -3,7 +3,7 @@ use Rattle.std.proofs.Common.{◌≡◌, ◌≢◌, ℕ, zero, suc, ◌+◌, ◌
 use Rattle.std.proofs.lemmas.Bool.{cases_Bool, cases_eq, cases_lt, lt-ltb, le-ltb, ne_eqb, false≢true}
 use Rattle.std.proofs.lemmas.List.{get_or-set_other, get_or-set_same, get_or_past}
 use Rattle.qv_sat_order.specs.Ranking.{activity_of, is_held, IsFirst}
-use Rattle.qv_sat_order.specs.Tournament.{ArePlayedBut, ArePlayedFrom, IsTournament, StandsUpTo, entrant_at, first_of, leaf_at, rank_of, up}
+use Rattle.qv_sat_order.specs.Tournament.{ArePlayedBut, ArePlayedFrom, IsDrawn, IsTournament, StandsUpTo, entrant_at, first_of, leaf_at, rank_of, up}
 use Rattle.qv_sat_order.proofs.Standing.{up_le}
 
 -- the first of two is one of them, and neither comes before it
@@ -18,6 +18,62 @@ first_of-most activity x y = elim (cases_lt (rank_of activity x) (rank_of activi
   | inl less ↦ let is : first_of activity x y ≡ y = rw (lt-ltb (rank_of activity x) (rank_of activity y) less) refl in let same = ap (rank_of activity) is in (omega arith, omega arith)
   | inr more ↦ let is : first_of activity x y ≡ x = rw (le-ltb (rank_of activity x) (rank_of activity y) more) refl in let same = ap (rank_of activity) is in (omega arith, omega arith)
 ]
+
+-- variables of one rank are one
+rank_once : (activity : List ℕ) (x y : ℕ) → x < 2 ^ 32 → y < 2 ^ 32 → rank_of activity x ≡ rank_of activity y → x ≡ y
+rank_once activity x y low small same = elim (cases_eq x 0) [
+  | inl none ↦
+      let rx : rank_of activity x ≡ 0 = rw none refl in
+      elim (cases_eq y 0) [
+        | inl also ↦ none ∙ sym also
+        | inr some ↦ let ry : rank_of activity y ≡ activity_of activity y * 2 ^ 32 + y = rw (ne_eqb y 0 some) refl in absurd (omega arith)
+      ]
+  | inr some ↦
+      let rx : rank_of activity x ≡ activity_of activity x * 2 ^ 32 + x = rw (ne_eqb x 0 some) refl in
+      elim (cases_eq y 0) [
+        | inl none ↦ let ry : rank_of activity y ≡ 0 = rw none refl in absurd (omega arith)
+        | inr also ↦ let ry : rank_of activity y ≡ activity_of activity y * 2 ^ 32 + y = rw (ne_eqb y 0 also) refl in omega arith
+      ]
+]
+
+-- in either order
+pub first_of-swap : (activity : List ℕ) (x y : ℕ) → x < 2 ^ 32 → y < 2 ^ 32 → first_of activity x y ≡ first_of activity y x
+first_of-swap activity x y low small = elim (cases_lt (rank_of activity x) (rank_of activity y)) [
+  | inl less ↦
+      let one : first_of activity x y ≡ y = rw (lt-ltb (rank_of activity x) (rank_of activity y) less) refl in
+      let two : first_of activity y x ≡ y = rw (le-ltb (rank_of activity y) (rank_of activity x) (omega arith)) refl in
+      one ∙ sym two
+  | inr more ↦ elim (cases_lt (rank_of activity y) (rank_of activity x)) [
+    | inl less ↦
+        let one : first_of activity x y ≡ x = rw (le-ltb (rank_of activity x) (rank_of activity y) more) refl in
+        let two : first_of activity y x ≡ x = rw (lt-ltb (rank_of activity y) (rank_of activity x) less) refl in
+        one ∙ sym two
+    | inr also ↦
+        let e : x ≡ y = rank_once activity x y low small (omega arith) in
+        subst (λ z. first_of activity x z ≡ first_of activity z x) e refl
+  ]
+]
+
+-- who came before one of two meets the first of them
+pub overtake_right : (activity : List ℕ) (w v t : ℕ) → rank_of activity w < rank_of activity v → first_of activity t v ≡ first_of activity (first_of activity t w) v
+overtake_right activity w v t less = elim (cases_lt (rank_of activity t) (rank_of activity v)) [
+  | inl behind ↦
+      let n = first_of activity t w in
+      let low : rank_of activity n < rank_of activity v = elim (first_of-cases activity t w) [
+        | inl e ↦ subst (λ y. rank_of activity y < rank_of activity v) (sym e) behind
+        | inr e ↦ subst (λ y. rank_of activity y < rank_of activity v) (sym e) less
+      ] in
+      let one : first_of activity t v ≡ v = rw (lt-ltb (rank_of activity t) (rank_of activity v) behind) refl in
+      let two : first_of activity n v ≡ v = rw (lt-ltb (rank_of activity n) (rank_of activity v) low) refl in
+      one ∙ sym two
+  | inr ahead ↦
+      let is : first_of activity t w ≡ t = rw (le-ltb (rank_of activity t) (rank_of activity w) (omega arith)) refl in
+      ap (λ y. first_of activity y v) (sym is)
+]
+
+pub overtake_left : (activity : List ℕ) (w v t : ℕ) → v < 2 ^ 32 → t < 2 ^ 32 → w < 2 ^ 32 → rank_of activity w < rank_of activity v → first_of activity v t ≡ first_of activity (first_of activity w t) v
+overtake_left activity w v t low small few less =
+    first_of-swap activity v t low small ∙ overtake_right activity w v t less ∙ ap (λ y. first_of activity y v) (first_of-swap activity t w small few)
 
 -- at a leaf
 leaf_held : (held : List Bool) (k : ℕ) → (leaf_at held k ≡ 0) ⊎ ((leaf_at held k ≡ k + 1) × (get_or held k false ≡ true))
@@ -34,6 +90,26 @@ leaf_one : (held : List Bool) (k : ℕ) → IsOne held (leaf_at held k)
 leaf_one held k = elim (leaf_held held k) [
   | inl none ↦ inl none
   | inr some ↦ inr (omega (arith, some.0), let at : leaf_at held k - 1 ≡ k = omega (arith, some.0) in ap (λ n. get_or held n false) at ∙ some.1)
+]
+
+pub entrant_le : (nodes : List ℕ) (held : List Bool) (activity : List ℕ) → IsDrawn nodes held activity → (i : ℕ) → entrant_at nodes held i ≤ length held
+entrant_le nodes held activity d i = elim (cases_lt i (length nodes)) [
+  | inl inside ↦
+      let is : entrant_at nodes held i ≡ get_or nodes i 0 = rw (lt-ltb i (length nodes) inside) refl in
+      let w = d.within i in
+      omega arith
+  | inr behind ↦
+      let is : entrant_at nodes held i ≡ leaf_at held (i - length nodes) = rw (le-ltb i (length nodes) behind) refl in
+      elim (leaf_held held (i - length nodes)) [
+        | inl none ↦ omega arith
+        | inr some ↦
+            let own = some.0 in
+            let low : i - length nodes < length held = elim (cases_lt (i - length nodes) (length held)) [
+              | inl under ↦ under
+              | inr past ↦ absurd (false≢true (sym (get_or_past held (i - length nodes) false past) ∙ some.1))
+            ] in
+            omega arith
+      ]
 ]
 
 module _ (nodes : List ℕ) (held : List Bool) (activity : List ℕ) (t : IsTournament nodes held activity) where
@@ -288,3 +364,45 @@ module _ (nodes : List ℕ) (held : List Bool) (activity : List ℕ) (t : IsTour
       where
         same_first : (l r : ℕ) → l ≢ v → r ≢ v → first_of activity l r ≡ first_of raised l r
         same_first l r left right = rw (rank-other l left, rank-other r right) refl
+
+    -- at its highest place
+    standing : (top : ℕ) → StandsUpTo nodes leaf v top → is_held held v ≡ true → entrant_at nodes held top ≡ v
+    standing top s on = elim (cases_eq s.stands.steps 0) [
+      | inl none ↦
+          let at : leaf ≡ top = ap (λ n. up n leaf) (sym none) ∙ s.stands.is in
+          ap (entrant_at nodes held) (sym at) ∙ (at_leaf v from on).1
+      | inr some ↦
+          let own : get_or nodes (up s.stands.steps leaf) 0 ≡ v = s.stands.each s.stands.steps (omega arith) (omega arith) in
+          let half : up s.stands.steps leaf ≤ leaf / 2 = up_le s.stands.steps 1 leaf (omega arith) in
+          let wide = t.drawn.wide in
+          let same = s.stands.is in
+          let inside : top < length nodes = omega arith in
+          inner top inside ∙ ap (λ n. get_or nodes n 0) (sym same) ∙ own
+    ]
+
+    -- above that it meets who stands there
+    pub meets_bump : (top : ℕ) → StandsUpTo nodes leaf v top → is_held held v ≡ true → 1 < top → first_of raised (entrant_at nodes held (2 * (top / 2))) (entrant_at nodes held (2 * (top / 2) + 1)) ≡ first_of raised (get_or nodes (top / 2) 0) v
+    meets_bump top s on high =
+        let q = top / 2 in
+        let l = entrant_at nodes held (2 * q) in
+        let r = entrant_at nodes held (2 * q + 1) in
+        let stands : entrant_at nodes held top ≡ v = standing top s on in
+        let least : up s.stands.steps leaf ≤ leaf = up_le s.stands.steps 0 leaf (omega arith) in
+        let same = s.stands.is in
+        let wide = t.drawn.wide in
+        let few = t.drawn.few in
+        let inside : q < length nodes = omega arith in
+        let old : get_or nodes q 0 ≡ first_of activity l r = t.played q (omega arith) (omega arith) inside in
+        let other : get_or nodes q 0 ≢ v = elim s.ends [ inl small ↦ absurd (omega arith) | inr far ↦ far ] in
+        elim (cases_eq top (2 * q)) [
+          | inl even ↦
+              let own : l ≡ v = ap (entrant_at nodes held) (sym even) ∙ stands in
+              let won_by : get_or nodes q 0 ≡ r = elim (first_of-cases activity l r) [ inl left ↦ absurd (other (old ∙ left ∙ own)) | inr right ↦ old ∙ right ] in
+              let bound = entrant_le nodes held activity t.drawn (2 * q + 1) in
+              ap (λ y. first_of raised y r) own ∙ first_of-swap raised v r (omega arith) (omega arith) ∙ ap (λ y. first_of raised y v) (sym won_by)
+          | inr odd ↦
+              let at : top ≡ 2 * q + 1 = omega arith in
+              let own : r ≡ v = ap (entrant_at nodes held) (sym at) ∙ stands in
+              let won_by : get_or nodes q 0 ≡ l = elim (first_of-cases activity l r) [ inl left ↦ old ∙ left | inr right ↦ absurd (other (old ∙ right ∙ own)) ] in
+              ap (λ y. first_of raised l y) own ∙ ap (λ y. first_of raised y v) (sym won_by)
+        ]

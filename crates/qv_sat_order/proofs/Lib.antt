@@ -1,3 +1,4 @@
 pub mod Firsts
 pub mod Playing
+pub mod Raising
 pub mod Standing

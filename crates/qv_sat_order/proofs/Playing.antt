@@ -18,7 +18,7 @@ drawn_set nodes held activity p x d at low = record {
   ];
 }
 
-entrant-set : (nodes : List ℕ) (held : List Bool) (p x q : ℕ) → q ≢ p → entrant_at (set nodes p x) held q ≡ entrant_at nodes held q
+pub entrant-set : (nodes : List ℕ) (held : List Bool) (p x q : ℕ) → q ≢ p → entrant_at (set nodes p x) held q ≡ entrant_at nodes held q
 entrant-set nodes held p x q other = rw (length-set nodes p x, get_or-set_other nodes p q x 0 other) refl
 
 played-other : (nodes : List ℕ) (held : List Bool) (activity : List ℕ) (p x j : ℕ) → j ≢ p → 2 * j ≢ p → 2 * j + 1 ≢ p → IsPlayed nodes held activity j → IsPlayed (set nodes p x) held activity j

@@ -56,3 +56,8 @@ pub record Stands (nodes : List ℕ) (leaf v place : ℕ) : Type 0 where
 pub record StandsUpTo (nodes : List ℕ) (leaf v top : ℕ) : Type 0 where
   pub stands : Stands nodes leaf v top
   pub ends : (top ≤ 1) ⊎ (slice_index_or nodes (top / 2) 0 ≢ v)
+
+-- each place but the one above was played, and there who stands meets the variable
+pub record IsRaising (nodes : List ℕ) (held : List Bool) (activity : List ℕ) (v place : ℕ) : Type 0 where
+  pub played : ArePlayedBut nodes held activity (place / 2)
+  pub meets : 1 < place → first_of activity (entrant_at nodes held (2 * (place / 2))) (entrant_at nodes held (2 * (place / 2) + 1)) ≡ first_of activity (slice_index_or nodes (place / 2) 0) v

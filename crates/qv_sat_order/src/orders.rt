@@ -3,7 +3,7 @@
 ghost use Rattle.std.specs.Prelude.{◌≡◌, ◌≤◌, ◌/◌, ◌^◌, length, map, true, false, IfSome, IfNone};
 ghost use Rattle.std.specs.Prelude.{OnOk, OnErr};
 
-use super::tournament::{first, mend, play, top};
+use super::tournament::{first, mend, play, raise, top};
 use std::alloc::{AllocError, Global};
 use std::marker::Model;
 
@@ -125,7 +125,7 @@ impl Order {
         self.activity[place] = self.activity[place].saturating_add(self.increment);
         if self.held[place] {
             let top = top(&self.nodes, self.held.len() + place, variable);
-            mend(&mut self.nodes, &self.held, &self.activity, top);
+            raise(&mut self.nodes, &self.held, &self.activity, top, variable);
         }
     }
 

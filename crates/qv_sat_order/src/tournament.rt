@@ -1,8 +1,9 @@
 //! A tournament of variables in a tree: each place has the first of the two below it.
 
 ghost use Rattle.std.specs.Prelude.{◌≡◌, ◌+◌, ◌*◌, ◌/◌, ◌<◌, ◌≤◌, ◌^◌, length, nat_lt};
+ghost use Rattle.std.specs.Prelude.{slice_index_or};
 ghost use Rattle.qv_sat_order.specs.Tournament.{entrant_at, first_of, rank_of, ArePlayedBut};
-ghost use Rattle.qv_sat_order.specs.Tournament.{ArePlayedFrom, IsDrawn, StandsUpTo};
+ghost use Rattle.qv_sat_order.specs.Tournament.{ArePlayedFrom, IsDrawn, IsRaising, StandsUpTo};
 
 // Whether the first variable comes behind the second: it is less active, or as active and of a
 // smaller number. No variable is last.
@@ -73,6 +74,39 @@ pub(crate) fn mend(nodes: &mut [u32], held: &[bool], activity: &[u64], from: usi
         }
         nodes[place] = first;
     }
+}
+
+// Lets a variable that became more active go up from the highest place where it stands: at each place
+// above, it meets only who stands there.
+pub(crate) fn raise(nodes: &mut [u32], held: &[bool], activity: &[u64], from: usize, variable: u32)
+    requires drawn { IsDrawn nodes.old held.now activity.now }
+    requires raising { IsRaising nodes.old held.now activity.now variable from }
+    requires from { from < 2 * length nodes.old }
+    requires variable { variable ≤ length held.now }
+    ensures drawn { IsDrawn nodes.new held.now activity.now }
+    ensures played { ArePlayedFrom nodes.new held.now activity.now 0 }
+{
+    let _held = held;
+    let mut place = from;
+    'up: while place > 1 {
+        place /= 2;
+        if !goes_behind(nodes, activity, place, variable) {
+            break;
+        }
+        nodes[place] = variable;
+    }
+}
+
+// Whether who stands at a place comes behind the variable.
+fn goes_behind(nodes: &[u32], activity: &[u64], place: usize, variable: u32) -> bool
+    requires place { place < length nodes.now }
+    requires one { slice_index_or nodes.now place 0 ≤ length activity.now }
+    requires other { variable ≤ length activity.now }
+    requires few { length activity.now < 2 ^ 32 }
+    ensures { result ≡ nat_lt (rank_of activity.now (slice_index_or nodes.now place 0))
+        (rank_of activity.now variable) }
+{
+    is_behind(activity, nodes[place], variable)
 }
 
 // The highest place up to which a variable stands, from its leaf.

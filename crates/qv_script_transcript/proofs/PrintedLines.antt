@@ -28,7 +28,7 @@ use Rattle.qv_lrat_text.specs.Spelling.{spelling, literal_text}
 use Rattle.qv_lrat_text.proofs.PrintedLemmas.{decimal-digits}
 use Rattle.qv_words.specs.Rules.{name_of_rule}
 use Rattle.qv_rewrite_passes.specs.declared.pass.Pass.{Pass}
-use Rattle.qv_rewrite_passes.specs.declared.pass.Pass.TheVariants.{By, Sum}
+use Rattle.qv_rewrite_passes.specs.declared.pass.Pass.TheVariants.{By, Sum, Xor, Simp}
 use Rattle.qv_rewrite_passes.specs.Names.{name_of_pass}
 use Rattle.qv_cert.specs.Line.{CertLine, Header, Check, VariableNode, EigenNode, LiteralNode, OperatorNode, Skolem, Instance, Eigen, Rewrite, Lrat, Step, End, IsCertLine, IsNumber, IsIndex}
 use Rattle.qv_cert.specs.Grammar.{outer_line, inner_line, cert_line}
@@ -119,6 +119,8 @@ rule-free _ = refl
 pass-free : (p : Pass) → is_free (name_of_pass p) ≡ true
 pass-free (By rule) = rule-free rule
 pass-free Sum = refl
+pass-free Xor = refl
+pass-free Simp = refl
 
 operator-free : (op : Op) → is_free (name_of op) ≡ true
 operator-free Not = refl

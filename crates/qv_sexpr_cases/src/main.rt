@@ -1,13 +1,20 @@
-//! Prints what the lexer and the reader answer to the cases of standard input, a line for each.
+//! Prints what the lexer and the reader answer to the cases of standard input, a line for each. `io`
+//! stands before cases of sources and sinks, and `print` before those of values, sorts and symbols as
+//! text.
 #![tactic(auto)]
 
 mod cases;
 mod commands;
+mod io_cases;
+mod objects;
+mod printing;
 mod sessions;
 mod show;
 mod tokens;
 
 use cases::{numbers, piece_size, text_of};
+use io_cases::say_objects;
+use printing::say_printed;
 use qv_cases_rows::{Answer, Cases, Words, answer_all};
 use sessions::{Call, Session};
 use std::alloc::Global;
@@ -35,6 +42,14 @@ static COMMANDS: [(&str, Command); 10] = [
     ("text", Command::Session(Call::Text)),
 ];
 
+// What a line begins with that is no text.
+enum Group {
+    Objects,
+    Printing,
+}
+
+static GROUPS: [(&str, Group); 2] = [("io", Group::Objects), ("print", Group::Printing)];
+
 #[derive(Drop)]
 struct TextCases<'s> {
     alloc: Global,
@@ -42,14 +57,23 @@ struct TextCases<'s> {
 }
 
 impl Cases for TextCases<'_> {
-    // A case is words, and then, behind a quote, a text.
     fn answer(&mut self, words: &mut Words<'_>, out: &mut Answer) {
         let line = words.rest();
-        let (head, written) = line.split_once('"').unwrap_or((line, "\""));
-        match text_of(self.alloc, written) {
-            Some(text) => answer(self.alloc, self.session, &mut Words::new(head), text, out),
-            None => out.refuse(),
+        let mut words = Words::new(line);
+        match words.pick(&GROUPS) {
+            Some(Group::Objects) => say_objects(self.alloc, words.rest(), out),
+            Some(Group::Printing) => say_printed(self.alloc, words.rest(), out),
+            None => answer_text(self.alloc, self.session, line, out),
         }
+    }
+}
+
+// A case is words, and then, behind a quote, a text.
+fn answer_text(alloc: Global, session: &mut Session, line: &str, out: &mut Answer) {
+    let (head, written) = line.split_once('"').unwrap_or((line, "\""));
+    match text_of(alloc, written) {
+        Some(text) => answer(alloc, session, &mut Words::new(head), text, out),
+        None => out.refuse(),
     }
 }
 

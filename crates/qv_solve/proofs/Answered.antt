@@ -16,6 +16,7 @@ use Rattle.qv_prenex.specs.Posed.{values_for}
 use Rattle.qv_cert.specs.declared.line.Line.TheVariants as line
 use Rattle.qv_cert.specs.Line.{CertLine, Check, End, IsCertLine, IsNumber}
 use Rattle.qv_solve_write.specs.Said.{lines_said}
+use Rattle.qv_solve_section.specs.Sections.{IsClosed}
 use Rattle.qv_solve.specs.declared.fault.SolveFault.{SolveFault}
 use Rattle.qv_solve.specs.declared.fault.SolveFault.TheVariants.{PrefixLimit, NoMemory}
 use Rattle.qv_solve.specs.declared.solved.Solved.{Solved}
@@ -23,7 +24,7 @@ use Rattle.qv_solve.specs.declared.solved.Solved.TheVariants.{Sat, Unsat, Unknow
 use Rattle.qv_solve.specs.Solutions.{GivesConstants, IsAnswerOf, IsDrawn, IsSettled, IsUnknown, answer_of, lines_of}
 use Rattle.qv_solve.specs.Answering.{GivesValues, IsKnown, IsSolution, IsTrueOf, IsUnknownOf}
 use Rattle.qv_solve.proofs.Constants.{constants-of}
-use Rattle.qv_solve.proofs.Kept.{settled-instances}
+use Rattle.qv_solve.proofs.Kept.{settled-instances, settled-limit}
 
 -- what is true of the problem is so of the formulas
 pub answer-true : (fs : List Tree) (a : Answer) → Holds (problem_of fs) ↔ AreTrue fs → IsTrueOf (problem_of fs) a → IsAnswerOf fs a
@@ -39,8 +40,8 @@ gives-constants fs (Unknown section kind) one under h = tt
 
 -- what is drawn stays so where the record is settled
 drawn-settled : (p : Problem) (number : ℕ) (a : Answer) (lines : List CertLine) (b c : Metering) → c ≡ settled b → IsDrawn p number a lines b → IsDrawn p number a lines c
-drawn-settled p number answer.Sat lines b c is h = record { entries = h.entries; given = h.given; played = h.played; won = h.won; list = h.list; closed = h.closed; counted = settled-instances b c (instances_of p Existential h.entries) is h.counted }
-drawn-settled p number answer.Unsat lines b c is h = record { entries = h.entries; given = h.given; played = h.played; won = h.won; list = h.list; closed = h.closed; counted = settled-instances b c (instances_of p Universal h.entries) is h.counted }
+drawn-settled p number answer.Sat lines b c is h = record { entries = h.entries; given = h.given; played = h.played; won = h.won; list = h.list; closed = subst (λ (n : ℕ). IsClosed p number answer.Sat n h.given lines) (settled-limit b c is) h.closed; counted = settled-instances b c (instances_of p Existential h.entries) is h.counted }
+drawn-settled p number answer.Unsat lines b c is h = record { entries = h.entries; given = h.given; played = h.played; won = h.won; list = h.list; closed = subst (λ (n : ℕ). IsClosed p number answer.Unsat n h.given lines) (settled-limit b c is) h.closed; counted = settled-instances b c (instances_of p Universal h.entries) is h.counted }
 drawn-settled p number answer.Unknown lines b c is h = tt
 
 pub solution-settled : (p : Problem) (number : ℕ) (indices : List ℕ) (b c : Metering) (s : Solved) → c ≡ settled b → IsSolution p number indices b s → IsSolution p number indices c s

@@ -10,7 +10,7 @@ use Rattle.qv_meter.specs.Records.{AreTallies, IsMetering, IsRecord, IsWorked, K
 use Rattle.qv_meter.specs.Views.{quantity_of}
 use Rattle.qv_game.specs.Counts.{SameButCounts, uncounted}
 use Rattle.qv_game.specs.Starting.{IsUncharged}
-use Rattle.qv_solve_refute.specs.Refuting.{IsSpentBy}
+use Rattle.qv_solve_refute.specs.Refuting.{IsSpentBy, variable_limit}
 use Rattle.qv_solve.specs.Solutions.{HasRecord, IsUnknown}
 use Rattle.qv_solve.specs.Answering.{KeepsRecords}
 use Rattle.qv_solve.proofs.Metered.{CountsInstances}
@@ -28,6 +28,13 @@ counts-keep a b same = record {
 limits-settled : (o : Option Record) → option_map (λ (r : Record). r.limits) (option_map without_problem o) ≡ option_map (λ (r : Record). r.limits) o
 limits-settled None = refl
 limits-settled (Some r) = refl
+
+pub settled-limit : (b c : Metering) → c ≡ settled b → variable_limit b ≡ variable_limit c
+settled-limit b c is = go b.newest ∙ ap variable_limit (sym is)
+  where
+    go : (o : Option Record) → variable_limit (record { older = []; newest = o; lane = b.lane }) ≡ variable_limit (record { older = []; newest = option_map without_problem o; lane = b.lane })
+    go None = refl
+    go (Some r) = refl
 
 pub settled-keeps : (a b c : Metering) → SameButCounts a b → c ≡ settled b → KeepsRecords a c
 settled-keeps a b c same is =

@@ -8,7 +8,7 @@ use Rattle.qv_entries.specs.Rows.{Row, entries_in, entry_in}
 use Rattle.qv_meter.specs.declared.faults.PlayFault.{PlayFault}
 use Rattle.qv_meter.specs.declared.faults.PlayFault.TheVariants.{Spent, NoMemory}
 use Rattle.qv_meter.specs.declared.records.SpentKind.TheVariants.{Conflicts, Instances, Variables}
-use Rattle.qv_meter.specs.Charging.{OfNewest, SameButConflicts}
+use Rattle.qv_meter.specs.Charging.{OfNewest, SameButConflicts, without_conflicts}
 use Rattle.qv_meter.specs.Records.{Kept, Metering, Quantity, Record, IsSpentIn, in_lane, with_conflicts}
 use Rattle.qv_meter.specs.Units.{Final, Lane}
 use Rattle.qv_game.specs.Counts.{SameButCounts, uncounted, without_counts}
@@ -16,7 +16,7 @@ use Rattle.qv_game.specs.Faults.{IsSpentWhere}
 use Rattle.qv_game.specs.Starting.{HasCharged}
 use Rattle.qv_game.proofs.Counting.{conflicts-count, lane-counts, variables-counts}
 use Rattle.qv_expand.specs.Charges.{HasCounted, IsFault, OnlyCounts, more_instances, record_with}
-use Rattle.qv_solve_refute.specs.Refuting.{IsCharged, IsSpentBy}
+use Rattle.qv_solve_refute.specs.Refuting.{IsCharged, IsSpentBy, variable_limit}
 
 -- ---- why work is given up
 
@@ -65,6 +65,17 @@ counts-back lane (Some r) n h = h
 pub conflicts-instances : (a b : Metering) (n : ℕ) → SameButConflicts a b → CountsInstances a n → CountsInstances b n
 conflicts-instances a b n h counts =
     counts-back b.lane b.newest n (subst (λ (m : Metering). CountsInstances m n) h.same (counts-some a.lane a.newest n counts))
+
+-- nor the limit of variables
+limit-without : (m : Metering) → variable_limit (without_conflicts m) ≡ variable_limit m
+limit-without m = go m.newest
+  where
+    go : (o : Option Record) → variable_limit (with_newest_only m (option_map (with_conflicts m.lane (λ n. 0)) o)) ≡ variable_limit (with_newest_only m o)
+    go None = refl
+    go (Some r) = refl
+
+pub conflicts-limit : (a b : Metering) → SameButConflicts a b → variable_limit a ≡ variable_limit b
+conflicts-limit a b h = sym (limit-without a) ∙ ap variable_limit h.same ∙ limit-without b
 
 pub newest-weaker : (m : Metering) (P Q : Record → Kept → Type 0) → ((r : Record) (k : Kept) → P r k → Q r k) → OfNewest m P → OfNewest m Q
 newest-weaker m P Q go h = outer m.newest h

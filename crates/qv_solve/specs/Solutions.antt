@@ -20,6 +20,7 @@ use Rattle.qv_cert.specs.Listed.{listed_by}
 use Rattle.qv_solve_write.specs.Said.{lines_said}
 use Rattle.qv_solve_draw.specs.declared.values.ConstValue.{ConstValue}
 use Rattle.qv_solve_draw.specs.Values.{indices_of}
+use Rattle.qv_solve_refute.specs.Refuting.{variable_limit}
 use Rattle.qv_solve_section.specs.Sections.{IsClosed}
 use Rattle.qv_solve.specs.declared.solved.Solved.{Solved}
 use Rattle.qv_solve.specs.declared.solved.Solved.TheVariants.{Sat, Unsat, Unknown}
@@ -56,14 +57,15 @@ ListDrawn p Existential entries given = (listed_by p given).terms ≡ chain p en
 ListDrawn p Universal entries given = (listed_by p given).lines ≡ tree_of p entries
 
 -- a section of lines that list what is drawn from linked and fresh entries with which this player
--- has won; as many instances were charged as there are entries, and lines of the tree
+-- has won; as many instances were charged as there are entries, and lines of the tree, and what
+-- the section refutes is within the limit of variables
 pub record IsDrawnFor (p : Problem) (number : ℕ) (answer : Answer) (winner : Quantifier) (lines : List CertLine) (m : Metering) : Type 0 where
   pub entries : List Entry
   pub given : List CertLine
   pub played : IsPlayed p entries
   pub won : HasWon p winner entries
   pub list : ListDrawn p winner entries given
-  pub closed : IsClosed p number answer given lines
+  pub closed : IsClosed p number answer (variable_limit m) given lines
   pub counted : IsSomeAnd m.newest (λ r. r.instances ≡ instances_of p winner entries)
 
 abbrev pub IsDrawn : Problem → ℕ → Answer → List CertLine → Metering → Type 0

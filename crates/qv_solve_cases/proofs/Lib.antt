@@ -1,1 +1,3 @@
 pub mod Lines
+mod Charging
+mod Covers

@@ -4,8 +4,13 @@ ghost use Rattle.std.specs.Prelude.{All, IfOk};
 ghost use Rattle.qv_cert.specs.Line.{IsCertLine};
 ghost use Rattle.qv_solve.specs.Solutions.{lines_of};
 
-use crate::asking::{AMPLE, Asked, read_limits, solved};
+use crate::asking::{AMPLE, Asked, solved};
+use crate::games::say_games;
+use crate::limits::read_limits;
+use crate::meters::say_calls;
+use crate::offers::say_offered;
 use crate::saying::{say_charged, say_constants, say_lines, say_solved, say_values};
+use crate::sharing::say_shared;
 use qv_cases_rows::{Answer, Cases, Words};
 use qv_cases_terms::{sorts, terms};
 use qv_meter::{Limits, Meter};
@@ -33,15 +38,23 @@ enum Call {
     One(Detail),
     Each,
     Checks,
+    Game,
+    Meter,
+    Offer,
+    Shared,
 }
 
-static CALLS: [(&str, Call); 6] = [
+static CALLS: [(&str, Call); 10] = [
     ("solve", Call::One(Detail::Nothing)),
     ("values", Call::One(Detail::Values)),
     ("count", Call::One(Detail::Counts)),
     ("text", Call::One(Detail::Lines)),
     ("each", Call::Each),
     ("checks", Call::Checks),
+    ("game", Call::Game),
+    ("meter", Call::Meter),
+    ("offer", Call::Offer),
+    ("shared", Call::Shared),
 ];
 
 impl Cases for SolveCases {
@@ -50,6 +63,10 @@ impl Cases for SolveCases {
             Some(Call::One(detail)) => say_one(self.alloc, words, out, *detail),
             Some(Call::Each) => say_each(self.alloc, words, out),
             Some(Call::Checks) => say_checks(self.alloc, words, out),
+            Some(Call::Game) => say_games(self.alloc, words, out),
+            Some(Call::Meter) => say_calls(self.alloc, words, out),
+            Some(Call::Offer) => say_offered(self.alloc, words, out),
+            Some(Call::Shared) => say_shared(self.alloc, words, out),
             None => out.refuse(),
         }
     }

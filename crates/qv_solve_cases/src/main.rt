@@ -8,13 +8,25 @@
 //! they differ from the one before. `checks SORTS/LIMITS TERMS|LIMITS TERMS|..` says the answers of
 //! one check after another over one store and one meter. The sorts are those of the constants.
 //! Terms are written with the arguments before their operator, as `v0:8 8:3 bvadd`, and quantifiers
-//! behind their body, as `v0:bool All:0:bool`.
+//! behind their body, as `v0:bool All:0:bool`. `game` stands before cases of games, and `meter` before
+//! calls of a meter; `offer` says which formulas may be left out together, and `shared` which words
+//! checks are offered.
 #![tactic(auto)]
 
 mod asking;
+mod boards;
 mod cases;
+mod covering;
+mod games;
 mod judging;
+mod limits;
+mod meters;
+mod offers;
+mod records;
 mod saying;
+mod scripts;
+mod sharing;
+mod winning;
 
 use cases::SolveCases;
 use qv_cases_rows::answer_all;

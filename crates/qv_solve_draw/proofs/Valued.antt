@@ -1,9 +1,10 @@
 -- Values that terms without variables give.
-use Rattle.std.proofs.Common.{◌≡◌, ℕ, zero, suc, ◌+◌, ◌==◌, ◌⊎◌, Bool, true, false, cond, Some, None, List, [], ◌∷◌, ◌++◌, length, map, take, drop, slice_get, refl, sym, ap, ◌∙◌, subst, inl, inr, arith}
-use Rattle.std.specs.Prelude.{IfOk, IsSome, IsSomeAnd, Result, Ok, Err}
+use Rattle.std.proofs.Common.{◌≡◌, ℕ, zero, suc, ◌+◌, ◌==◌, ◌≢◌, ◌⊎◌, Bool, true, false, cond, Some, None, List, [], ◌∷◌, ◌++◌, length, map, take, drop, slice_get, get_or, refl, sym, ap, ◌∙◌, subst, inl, inr, arith}
+use Rattle.std.specs.Prelude.{AllPairs, IfOk, IsSome, IsSomeAnd, Result, Ok, Err, option_map}
 use Rattle.std.specs.List.{AllByRecursion}
+use Rattle.std.proofs.lemmas.Bool.{eq-eqb, ne_eqb}
 use Rattle.std.proofs.lemmas.List.Elements.{All-from_recursion, recursion_from_All}
-use Rattle.std.proofs.lemmas.Option.{none-some, same_Some}
+use Rattle.std.proofs.lemmas.Option.{get_or_from_slice_get, none-some, same_Some, slice_get-map, slice_get_within}
 use Rattle.qv_words.specs.declared.sort.Sort.{Sort}
 use Rattle.qv_words.specs.declared.word.Word.{Word}
 use Rattle.qv_words.specs.Sort.{IsValueOf}
@@ -20,7 +21,7 @@ use Rattle.qv_cert_section_laws.specs.SectionLaws.{IsValueOfTerm}
 use Rattle.qv_cert_section_laws.proofs.SkolemSound.{first-terms_win, section-term}
 use Rattle.qv_store.specs.Nodes.{tree_at}
 use Rattle.qv_skolem.specs.declared.skolem.Skolem.{Skolem}
-use Rattle.qv_skolem.specs.Skolems.{skolems_in, IsNeverTrue}
+use Rattle.qv_skolem.specs.Skolems.{skolem_in, skolems_in, IsNeverTrue}
 use Rattle.qv_solve_draw.specs.declared.values.ConstValue.{ConstValue}
 use Rattle.qv_solve_draw.specs.Values.{AreExistential, HaveSorts, IsWordOfTerm, indices_of, values_of}
 
@@ -41,6 +42,24 @@ pub looked-here : (trees : List Tree) (terms : List Skolem) (place i : ℕ) (s :
 looked-here trees terms place i s at own inv =
     inv ∙ ap (λ (ss : List Skolem). term_of (skolems_in trees ss) place) (dropped-at terms i s at)
     ∙ ap (λ (b : Bool). cond b (Some (tree_at trees s.term)) (term_of (skolems_in trees (drop (suc i) terms)) place)) own
+
+-- the term that stands somewhere is that of its place, since others are of other places
+term_of-there : (terms : List SkolemTerm) (i : ℕ) (s : SkolemTerm) → AllPairs (λ s t. s.place ≢ t.place) terms → slice_get terms i ≡ Some s → term_of terms s.place ≡ Some s.term
+term_of-there [] i s once at = absurd (none-some s at)
+term_of-there (x ∷ xs) zero s once at =
+    let same : x ≡ s = same_Some x s at in
+    ap (λ (b : Bool). cond b (Some x.term) (term_of xs s.place)) (eq-eqb x.place s.place (ap (λ (t : SkolemTerm). t.place) same)) ∙ ap (λ (t : SkolemTerm). Some t.term) same
+term_of-there (x ∷ xs) (suc i) s once at =
+    let stands : get_or xs i s ≡ s = get_or_from_slice_get xs i s s at in
+    let other : x.place ≢ s.place = subst (λ (t : SkolemTerm). x.place ≢ t.place) stands (once 0 (suc i) s (omega arith) (omega (arith, slice_get_within xs i s at))) in
+    ap (λ (b : Bool). cond b (Some x.term) (term_of xs s.place)) (ne_eqb x.place s.place other)
+    ∙ term_of-there xs i s (λ j k d below within. once (suc j) (suc k) d (omega (arith, below)) (omega (arith, within))) at
+
+pub found-there : (trees : List Tree) (p : Problem) (terms : List Skolem) (place : ℕ) (s : Skolem) → SkolemOk p (skolems_in trees terms) → slice_get terms place ≡ Some s → s.place ≡ place
+    → term_of (skolems_in trees terms) place ≡ Some (tree_at trees s.term)
+found-there trees p terms place s ok at own =
+    ap (term_of (skolems_in trees terms)) (sym own)
+    ∙ term_of-there (skolems_in trees terms) place (skolem_in trees s) ok.once (slice_get-map (skolem_in trees) terms place ∙ ap (option_map (skolem_in trees)) at)
 
 -- ---- its value
 

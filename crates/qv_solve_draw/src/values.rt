@@ -71,14 +71,31 @@ fn word_at(
     ensures { IfOk result (IsWordOfTerm (problem_in store.now _problem.now)
         (skolems_in store.now terms.now) place) }
 {
-    let Some(term) = term_at(store, terms, place) else {
+    let Some(term) = term_at(store, _problem, terms, place) else {
         unreachable!()
     };
     store.eval_at(term, &[], &[])
 }
 
-// The term of a place.
-fn term_at(_store: &Store, terms: &[Skolem], place: u64) -> Option<Id>
+// The term of a place. Behind such places alone it mostly stands at its own.
+fn term_at(_store: &Store, _problem: &Problem, terms: &[Skolem], place: u64) -> Option<Id>
+    requires below { All (λ s. s.term < length _store.now) terms.now }
+    requires section { SkolemOk (problem_in _store.now _problem.now)
+        (skolems_in _store.now terms.now) }
+    ensures term { term_of (skolems_in _store.now terms.now) place
+        ≡ option_map (tree_at _store.now) result }
+    ensures below { IfSome result (λ id. id < length _store.now) }
+{
+    if let Some(term) = terms.get(place as usize) {
+        if term.place == place {
+            return Some(term.term);
+        }
+    }
+    term_among(_store, terms, place)
+}
+
+// The term of a place, wherever it stands.
+fn term_among(_store: &Store, terms: &[Skolem], place: u64) -> Option<Id>
     requires below { All (λ s. s.term < length _store.now) terms.now }
     ensures term { term_of (skolems_in _store.now terms.now) place
         ≡ option_map (tree_at _store.now) result }

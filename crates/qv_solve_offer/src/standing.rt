@@ -26,15 +26,25 @@ pub(crate) fn standing(
     if last.is_empty() {
         return Ok(None);
     }
+    let mut words = Vec::new(alloc);
+    let hold = put_standing(alloc, &mut words, store, formulas, last)?;
+    Ok(if hold { Some(words) } else { None })
+}
+
+// Puts these words, and says whether all formulas are true under them.
+fn put_standing(
+    alloc: Global,
+    words: &mut Vec<Option<Word>>,
+    store: &Store,
+    formulas: &[Id],
+    last: &[Option<Word>],
+) -> Result<bool, NoMemory>
+    requires ids { All (λ id. id < length store.now) formulas.now }
+{
     let mut walk = Walk::new(alloc);
     visit_all(&mut walk, store, formulas)?;
-    let mut words = Vec::new(alloc);
-    put_last(&mut words, store, &walk, last)?;
-    let consts = filled(alloc, &words)?;
-    if !are_true(store, &walk, formulas, &consts)? {
-        return Ok(None);
-    }
-    Ok(Some(words))
+    put_last(words, store, &walk, last)?;
+    are_true(alloc, store, &walk, formulas, words)
 }
 
 // Puts the last words of the constants among the terms.
@@ -73,14 +83,21 @@ fn filled(alloc: Global, words: &[Option<Word>]) -> Result<Vec<Word>, NoMemory> 
     Ok(filled)
 }
 
-// Whether formulas of a walk are true under these words.
-fn are_true(store: &Store, walk: &Walk, formulas: &[Id], consts: &[Word]) -> Result<bool, NoMemory>
+// Whether formulas of a walk are true under these words for the constants.
+fn are_true(
+    alloc: Global,
+    store: &Store,
+    walk: &Walk,
+    formulas: &[Id],
+    words: &[Option<Word>],
+) -> Result<bool, NoMemory>
     requires walk { IsWalk store.now walk.now }
 {
-    if !have_values(store, walk, consts) {
+    let consts = filled(alloc, words)?;
+    if !have_values(store, walk, &consts) {
         return Ok(false);
     }
-    let values = store.eval_all(walk, consts, &[])?;
+    let values = store.eval_all(walk, &consts, &[])?;
     Ok(are_ones(walk, formulas, &values))
 }
 

@@ -1,9 +1,10 @@
 -- Sections that end.
 use Rattle.std.proofs.Common.{◌≡◌, ℕ, true, false, Ok, Err, Result, Option, None, List, [], ◌∷◌, refl, sym, ap, subst, ◌∙◌, inl, inr}
-use Rattle.std.specs.Prelude.{IfOk, is_none}
+use Rattle.std.specs.Prelude.{◌≤◌, IfErr, IfOk, is_none}
 use Rattle.qv_words.specs.declared.op.Answer.{Answer}
 use Rattle.qv_words.specs.declared.op.Answer.TheVariants.{Sat, Unsat, Unknown}
 use Rattle.qv_words.specs.Tree.{Tree}
+use Rattle.qv_words.specs.Clauses.{cnf_variables}
 use Rattle.qv_words.specs.Problem.{Problem}
 use Rattle.qv_rewrite_passes.specs.declared.pass.Pass.{Pass}
 use Rattle.qv_rewrite_passes.specs.Passes.{behind_all, EachChanges, IsBehind}
@@ -21,8 +22,8 @@ use Rattle.qv_cert.specs.Shown.{IsListOf}
 use Rattle.qv_cert_formulas.specs.Starts.{MayStart}
 use Rattle.qv_solve_write_laws.specs.WritingLaws.{AreLinesOf}
 use Rattle.qv_solve_refute.specs.Greatest.{greatest_variable}
-use Rattle.qv_solve_refute.specs.Refuting.{IsForFinal, IsMeasured}
-use Rattle.qv_solve_section.specs.Measured.{EachIsForFinal, OneIsMeasured}
+use Rattle.qv_solve_refute.specs.Refuting.{IsForFinal, IsMeasured, variable_limit}
+use Rattle.qv_solve_section.specs.Measured.{EachIsForFinal, IsFaultBehind}
 use Rattle.qv_solve_section.specs.Sections.{formulas_of, task_of, IsClosed, IsCounted, IsProofOf, IsRefuted}
 use Rattle.qv_cert.proofs.Accepting.{not-missing}
 use Rattle.qv_solve_refute.proofs.Owed.{some-weaker}
@@ -43,8 +44,8 @@ never-missing o p answer l h e none = contra (sym (not-missing p answer l h) ∙
 
 -- ---- it is a section
 
-proof-of : (p : Problem) (number : ℕ) (answer : Answer) (given lines : List CertLine) → AreLinesOf p answer given → IsListOf p answer (listed_by p given) → IsClosed p number answer given lines → IsProofOf (task_of p number) answer lines
-proof-of p number answer given lines own listed h = record {
+proof-of : (p : Problem) (number : ℕ) (answer : Answer) (limit : ℕ) (given lines : List CertLine) → AreLinesOf p answer given → IsListOf p answer (listed_by p given) → IsClosed p number answer limit given lines → IsProofOf (task_of p number) answer lines
+proof-of p number answer limit given lines own listed h = record {
   given = given;
   passes = h.passes;
   belong = own.belong;
@@ -55,36 +56,40 @@ proof-of p number answer given lines own listed h = record {
 }
 
 -- with the greatest variable of its clauses
-counted-of : (p : Problem) (number : ℕ) (answer : Answer) (given lines : List CertLine) (variables : ℕ) → AreLinesOf p answer given → IsListOf p answer (listed_by p given) → (h : IsClosed p number answer given lines)
+counted-of : (p : Problem) (number : ℕ) (answer : Answer) (limit : ℕ) (given lines : List CertLine) (variables : ℕ) → AreLinesOf p answer given → IsListOf p answer (listed_by p given) → (h : IsClosed p number answer limit given lines)
     → variables ≡ greatest_variable (clause_list (behind_all h.passes (formulas_of p answer given))) → IsCounted (task_of p number) answer lines variables
 unfolding proof-of
-counted-of p number Sat given lines variables own listed h count = record { section = proof-of p number Sat given lines own listed h; counted = count }
-counted-of p number Unsat given lines variables own listed h count = record { section = proof-of p number Unsat given lines own listed h; counted = count }
-counted-of p number Unknown given lines variables own listed h count = absurd listed
+counted-of p number Sat limit given lines variables own listed h count = record { section = proof-of p number Sat limit given lines own listed h; counted = count }
+counted-of p number Unsat limit given lines variables own listed h count = record { section = proof-of p number Unsat limit given lines own listed h; counted = count }
+counted-of p number Unknown limit given lines variables own listed h count = absurd listed
 
 -- ---- of an answer that may be a fault
 
-closed-one : (p : Problem) (number : ℕ) (answer : Answer) (given lines : List CertLine) (l : Listed) (passes : List Pass) (last : List Tree) → l ≡ listed_by p given → EachChanges passes (first_list p answer l) → last ≡ behind_all passes (first_list p answer l)
-    → IsRefuted number answer given passes last lines → IsClosed p number answer given lines
-closed-one p number answer given lines l passes last same changes is h = record {
-  passes = passes;
-  changes = subst (λ (k : Listed). EachChanges passes (first_list p answer k)) same changes;
-  refuted = subst (λ (fs : List Tree). IsRefuted number answer given passes fs lines) (is ∙ ap (λ (k : Listed). behind_all passes (first_list p answer k)) same) h;
-}
+closed-one : (p : Problem) (number : ℕ) (answer : Answer) (limit : ℕ) (given lines : List CertLine) (l : Listed) (passes : List Pass) (last : List Tree) → l ≡ listed_by p given → EachChanges passes (first_list p answer l) → last ≡ behind_all passes (first_list p answer l)
+    → IsRefuted number answer given passes last lines → cnf_variables last ≤ limit → IsClosed p number answer limit given lines
+closed-one p number answer limit given lines l passes last same changes is h few =
+    let own : last ≡ behind_all passes (formulas_of p answer given) = is ∙ ap (λ (k : Listed). behind_all passes (first_list p answer k)) same in
+    record {
+      passes = passes;
+      changes = subst (λ (k : Listed). EachChanges passes (first_list p answer k)) same changes;
+      within = subst (λ (fs : List Tree). cnf_variables fs ≤ limit) own few;
+      refuted = subst (λ (fs : List Tree). IsRefuted number answer given passes fs lines) own h;
+    }
 
-pub closed-ok : {A B : Type 0} (said : A → List CertLine) (p : Problem) (number : ℕ) (answer : Answer) (given : List CertLine) (l : Listed) (passes : List Pass) (last : List Tree) (r : Result A B) → l ≡ listed_by p given
-    → EachChanges passes (first_list p answer l) → last ≡ behind_all passes (first_list p answer l) → IfOk r (λ x. IsRefuted number answer given passes last (said x))
-    → IfOk r (λ x. IsClosed p number answer given (said x))
-closed-ok said p number answer given l passes last (Err f) same changes is h = tt
-closed-ok said p number answer given l passes last (Ok x) same changes is h = closed-one p number answer given (said x) l passes last same changes is h
+pub closed-ok : {A : Type 0} (said : A → List CertLine) (p : Problem) (number : ℕ) (answer : Answer) (m lane : Metering) (given : List CertLine) (l : Listed) (passes : List Pass) (last : List Tree) (r : Result A PlayFault) → lane ≡ in_lane Final m → l ≡ listed_by p given
+    → EachChanges passes (first_list p answer l) → last ≡ behind_all passes (first_list p answer l) → IfOk r (λ x. IsRefuted number answer given passes last (said x)) → IsMeasured lane last r
+    → IfOk r (λ x. IsClosed p number answer (variable_limit m) given (said x))
+closed-ok said p number answer m lane given l passes last (Err f) e same changes is h measured = tt
+closed-ok said p number answer m lane given l passes last (Ok x) e same changes is h measured =
+    closed-one p number answer (variable_limit m) given (said x) l passes last same changes is h (subst (λ (k : Metering). cnf_variables last ≤ variable_limit k) e measured)
 
-pub counted-ok : {A B : Type 0} (said : A → List CertLine) (variables : A → ℕ) (p : Problem) (number : ℕ) (answer : Answer) (given : List CertLine) (l : Listed) (passes : List Pass) (last : List Tree) (r : Result A B) → l ≡ listed_by p given
+pub counted-ok : {A : Type 0} (said : A → List CertLine) (variables : A → ℕ) (p : Problem) (number : ℕ) (answer : Answer) (lane : Metering) (given : List CertLine) (l : Listed) (passes : List Pass) (last : List Tree) (r : Result A PlayFault) → l ≡ listed_by p given
     → EachChanges passes (first_list p answer l) → last ≡ behind_all passes (first_list p answer l) → AreLinesOf p answer given → IsListOf p answer (listed_by p given)
-    → IfOk r (λ x. IsRefuted number answer given passes last (said x)) → IfOk r (λ x. variables x ≡ greatest_variable (clause_list last)) → IfOk r (λ x. IsCounted (task_of p number) answer (said x) (variables x))
+    → IfOk r (λ x. IsRefuted number answer given passes last (said x)) → IsMeasured lane last r → IfOk r (λ x. variables x ≡ greatest_variable (clause_list last)) → IfOk r (λ x. IsCounted (task_of p number) answer (said x) (variables x))
 unfolding closed-one
-counted-ok said variables p number answer given l passes last (Err f) same changes is own listed h count = tt
-counted-ok said variables p number answer given l passes last (Ok x) same changes is own listed h count =
-    counted-of p number answer given (said x) (variables x) own listed (closed-one p number answer given (said x) l passes last same changes is h)
+counted-ok said variables p number answer lane given l passes last (Err f) same changes is own listed h measured count = tt
+counted-ok said variables p number answer lane given l passes last (Ok x) same changes is own listed h measured count =
+    counted-of p number answer (variable_limit lane) given (said x) (variables x) own listed (closed-one p number answer (variable_limit lane) given (said x) l passes last same changes is h measured)
     (count ∙ ap (λ (fs : List Tree). greatest_variable (clause_list fs)) (is ∙ ap (λ (k : Listed). behind_all passes (first_list p answer k)) same))
 
 -- ---- what may be charged, and what was measured
@@ -102,14 +107,15 @@ behind-owed m lane p answer given l passes last e same is owed =
     let own : IsForFinal (in_lane Final m) last = owed last (behind-first p answer given l passes last same is) in
     subst (λ (x : Metering). IsForFinal x last) (sym e) own
 
-measured : {A : Type 0} (m : Metering) (first last : List Tree) (r : Result A PlayFault) → IsBehind first last → IsMeasured (in_lane Final m) last r → OneIsMeasured m first r
-measured m first last (Ok x) behind h = (last, behind, h)
-measured m first last (Err NoMemory) behind h = tt
-measured m first last (Err (Spent Conflicts)) behind h = (last, behind, h)
-measured m first last (Err (Spent Instances)) behind h = h
-measured m first last (Err (Spent Variables)) behind h = (last, behind, h)
+fault-of : {A : Type 0} (m : Metering) (first : List Tree) (passes : List Pass) (r : Result A PlayFault) → EachChanges passes first → IsMeasured (in_lane Final m) (behind_all passes first) r → IfErr r (IsFaultBehind m first)
+fault-of m first passes (Ok x) changes h = tt
+fault-of m first passes (Err NoMemory) changes h = tt
+fault-of m first passes (Err (Spent Conflicts)) changes h = (passes, changes, h)
+fault-of m first passes (Err (Spent Instances)) changes h = h
+fault-of m first passes (Err (Spent Variables)) changes h = (passes, changes, h)
 
-pub behind-measured : {A : Type 0} (m lane : Metering) (p : Problem) (answer : Answer) (given : List CertLine) (l : Listed) (passes : List Pass) (last : List Tree) (r : Result A PlayFault) → lane ≡ in_lane Final m → l ≡ listed_by p given →
-    last ≡ behind_all passes (first_list p answer l) → IsMeasured lane last r → OneIsMeasured m (formulas_of p answer given) r
-behind-measured m lane p answer given l passes last r e same is h =
-    measured m (formulas_of p answer given) last r (behind-first p answer given l passes last same is) (subst (λ (x : Metering). IsMeasured x last r) e h)
+pub behind-fault : {A : Type 0} (m lane : Metering) (p : Problem) (answer : Answer) (given : List CertLine) (l : Listed) (passes : List Pass) (last : List Tree) (r : Result A PlayFault) → lane ≡ in_lane Final m → l ≡ listed_by p given →
+    EachChanges passes (first_list p answer l) → last ≡ behind_all passes (first_list p answer l) → IsMeasured lane last r → IfErr r (IsFaultBehind m (formulas_of p answer given))
+behind-fault m lane p answer given l passes last r e same changes is h =
+    fault-of m (formulas_of p answer given) passes r (subst (λ (k : Listed). EachChanges passes (first_list p answer k)) same changes)
+    (subst (λ (fs : List Tree). IsMeasured (in_lane Final m) fs r) (is ∙ ap (λ (k : Listed). behind_all passes (first_list p answer k)) same) (subst (λ (x : Metering). IsMeasured x last r) e h))

@@ -2,5 +2,3 @@
 pub mod Sections
 pub mod Measured
 pub mod SectionLaws
--- the inside
-pub mod Formulas

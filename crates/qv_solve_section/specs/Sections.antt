@@ -3,6 +3,7 @@ use Rattle.std.specs.Prelude.{◌≡◌, ◌≤◌, ◌⊎◌, ◌^◌, ℕ, Lis
 use Rattle.qv_words.specs.declared.op.Answer.{Answer}
 use Rattle.qv_words.specs.declared.op.Answer.TheVariants.{Sat, Unsat, Unknown}
 use Rattle.qv_words.specs.Tree.{Tree}
+use Rattle.qv_words.specs.Clauses.{cnf_variables}
 use Rattle.qv_words.specs.Problem.{Problem}
 use Rattle.qv_rewrite_passes.specs.declared.pass.Pass.{Pass}
 use Rattle.qv_rewrite_passes.specs.Passes.{behind_all, EachChanges}
@@ -31,10 +32,12 @@ pub record IsRefuted (number : ℕ) (answer : Answer) (given : List CertLine) (p
   pub few : variables_of formulas ≤ 2 ^ 30
   pub refutes : Refutes (clause_list formulas) steps
 
--- such lines where each of the passes changes the formulas
-pub record IsClosed (p : Problem) (number : ℕ) (answer : Answer) (given lines : List CertLine) : Type 0 where
+-- such lines where each of the passes changes the formulas, and those behind them, which are
+-- refuted, take no more variables than a limit
+pub record IsClosed (p : Problem) (number : ℕ) (answer : Answer) (limit : ℕ) (given lines : List CertLine) : Type 0 where
   pub passes : List Pass
   pub changes : EachChanges passes (formulas_of p answer given)
+  pub within : cnf_variables (behind_all passes (formulas_of p answer given)) ≤ limit
   pub refuted : IsRefuted number answer given passes (behind_all passes (formulas_of p answer given)) lines
 
 -- lines of a sat or unsat section, as a checker accepts them

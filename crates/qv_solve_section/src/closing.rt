@@ -4,6 +4,7 @@ ghost use Rattle.std.specs.Prelude.{◌≡◌, ◌<◌, ◌^◌, All, IfOk, IfEr
 ghost use Rattle.qv_store.specs.Stores.{Grows};
 ghost use Rattle.qv_store.specs.Walks.{named};
 ghost use Rattle.qv_store.specs.Problems.{problem_in, IsPosedIn};
+ghost use Rattle.qv_rewrite_lists.specs.Rewriting.{AreFormulas};
 ghost use Rattle.qv_rewrite_passes.specs.Passes.{behind_all, EachChanges};
 ghost use Rattle.qv_cert.specs.ClauseList.{clause_list};
 ghost use Rattle.qv_cert.specs.Line.{IsCertLine, IsNumber};
@@ -16,8 +17,8 @@ ghost use Rattle.qv_solve_write.specs.Said.{lines_said};
 ghost use Rattle.qv_solve_write_laws.specs.WritingLaws.{AreLinesOf};
 ghost use Rattle.qv_solve_refute.specs.Greatest.{greatest_variable};
 ghost use Rattle.qv_solve_refute.specs.Refuting.{IsCharged, IsForFinal, IsMeasured, IsSpentBy};
-ghost use Rattle.qv_solve_section.specs.Formulas.{AreFormulas};
-ghost use Rattle.qv_solve_section.specs.Measured.{EachIsForFinal, OneIsMeasured};
+ghost use Rattle.qv_solve_refute.specs.Refuting.{variable_limit};
+ghost use Rattle.qv_solve_section.specs.Measured.{EachIsForFinal, IsFaultBehind};
 ghost use Rattle.qv_solve_section.specs.Sections.{formulas_of, task_of};
 ghost use Rattle.qv_solve_section.specs.Sections.{IsClosed, IsCounted, IsRefuted};
 
@@ -71,7 +72,8 @@ pub fn close(
     requires owed { EachIsForFinal meter.old (formulas_of (problem_in store.old problem.now)
         answer (lines_said written.lines.items)) }
     ensures closed { IfOk result (λ whole. IsClosed (problem_in store.old problem.now) number answer
-        (lines_said written.lines.items) (lines_said whole.lines.items)) }
+        (variable_limit meter.old) (lines_said written.lines.items)
+        (lines_said whole.lines.items)) }
     ensures section { IfOk result (λ whole. IsCounted
         (task_of (problem_in store.old problem.now) number) answer
         (lines_said whole.lines.items) whole.variables) }
@@ -80,8 +82,8 @@ pub fn close(
     // Only where memory runs out, or the meter is spent, are there no lines.
     ensures charged { IsCharged meter.old meter.new result }
     ensures spent { IfErr result (IsSpentBy meter.new) }
-    ensures variables { OneIsMeasured meter.old (formulas_of (problem_in store.old problem.now)
-        answer (lines_said written.lines.items)) result }
+    ensures fault { IfErr result (IsFaultBehind meter.old (formulas_of
+        (problem_in store.old problem.now) answer (lines_said written.lines.items))) }
     ensures grows { Grows store.old store.new }
 {
     meter.lane(Lane::Final);

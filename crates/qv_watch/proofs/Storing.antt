@@ -6,14 +6,14 @@ use Rattle.std.specs.Option.{option_map}
 use Rattle.std.specs.HashMap.{get, HashMap}
 use Rattle.std.specs.declared.hash.FoldHasher.{FoldHasher}
 use Rattle.std.specs.declared.hash.BuildHasherDefault.{BuildHasherDefault}
-use Rattle.std.proofs.lemmas.Bool.{ne_eqb, eq-eqb, cases_eq, cases_Bool, eqb-true, false≢true}
+use Rattle.std.proofs.lemmas.Bool.{ne_eqb, eq-eqb, cases_eq, cases_Bool, eqb-true, false≢true, leb-true, le-leb}
 use Rattle.std.proofs.lemmas.List.{length-append, map-append, take_all, drop_at}
 use Rattle.std.proofs.lemmas.List.Elements.{recursion_from_All, All-push, All-set, All-weaker}
 use Rattle.std.proofs.lemmas.Option.{none-some, same_Some, slice_get-map}
 use Rattle.qv_cnf.specs.Listing.{clause_named}
 use Rattle.qv_cnf.specs.Literal.{Literal}
 use Rattle.qv_watch.specs.Attaching.{Stored, attached_in, let_go, lits_in, IsNamed}
-use Rattle.qv_watch.specs.Storing.{stored_in, stored_at, first_or, AreFound, HoldsId, LacksId, IsStored}
+use Rattle.qv_watch.specs.Storing.{is_live, stored_in, stored_at, first_or, AreFound, HoldsId, LacksId, IsStored}
 use Rattle.qv_watch.specs.declared.clauses.Slot.{Slot}
 use Rattle.qv_watch.proofs.Finding.{are_named, clause_named-absent, IsOnce}
 use Rattle.qv_watch.proofs.Lists.{slice_get-push, slice_get-set_other, slice_get-set_same}
@@ -23,23 +23,26 @@ abbrev Places : Type 0
 Places = HashMap ℕ ℕ (BuildHasherDefault FoldHasher)
 
 -- more literals change no clause
-stored_in-more : (all more : List Literal) (s : Slot) → s.start ≤ s.end → s.end ≤ length all → stored_in (all ++ more) s ≡ stored_in all s
-stored_in-more all more s a b = ap (λ (ls : List Literal). let r : Stored = record { id = s.id; lits = if s.live then Some ls else None } in r) (slice_range-append all more s.start s.end a b)
+stored_in-more : (all more : List Literal) (s : Slot) → s.end ≤ length all → stored_in (all ++ more) s ≡ stored_in all s
+stored_in-more all more s b = elim (cases_Bool (is_live s)) [
+  | inl t ↦ ap (λ (ls : List Literal). let r : Stored = record { id = s.id; lits = if is_live s then Some ls else None } in r) (slice_range-append all more s.start s.end (leb-true s.start s.end t) b)
+  | inr f ↦ rw f refl
+]
 
-stored_at-more_each : (all more : List Literal) (slots : List Slot) → AllByRecursion (λ s. (s.start ≤ s.end) × (s.end ≤ length all)) slots → stored_at (all ++ more) slots ≡ stored_at all slots
+stored_at-more_each : (all more : List Literal) (slots : List Slot) → AllByRecursion (λ s. s.end ≤ length all) slots → stored_at (all ++ more) slots ≡ stored_at all slots
 stored_at-more_each all more [] h = refl
 stored_at-more_each all more (s ∷ ss) h =
-    let first = stored_in-more all more s h.0.0 h.0.1 in
+    let first = stored_in-more all more s h.0 in
     let rest = stored_at-more_each all more ss h.1 in
     cc
 
 pub stored_at-more : (all more : List Literal) (slots : List Slot) (places : Places) → IsStored all slots places → stored_at (all ++ more) slots ≡ stored_at all slots
-stored_at-more all more slots places st = stored_at-more_each all more slots (recursion_from_All (λ s. (s.start ≤ s.end) × (s.end ≤ length all)) slots st.inside)
+stored_at-more all more slots places st = stored_at-more_each all more slots (recursion_from_All (λ s. s.end ≤ length all) slots st.inside)
 
-inside_more : (all more : List Literal) (slots : List Slot) → All (λ s. (s.start ≤ s.end) × (s.end ≤ length all)) slots → All (λ s. (s.start ≤ s.end) × (s.end ≤ length (all ++ more))) slots
+inside_more : (all more : List Literal) (slots : List Slot) → All (λ s. s.end ≤ length all) slots → All (λ s. s.end ≤ length (all ++ more)) slots
 inside_more all more slots h =
     let longer = length-append all more in
-    All-weaker (λ (s : Slot). (s.start ≤ s.end) × (s.end ≤ length all)) (λ s. (s.start ≤ s.end) × (s.end ≤ length (all ++ more))) (λ s w. (w.0, omega (arith, w.1))) slots h
+    All-weaker (λ (s : Slot). s.end ≤ length all) (λ s. s.end ≤ length (all ++ more)) (λ s w. omega (arith, w)) slots h
 
 -- where there was no memory for one more
 pub IsStored-more : (all more : List Literal) (slots : List Slot) (places places' : Places) → IsStored all slots places → ((q : ℕ) → get nat_eq places' q ≡ get nat_eq places q) → IsStored (all ++ more) slots places'
@@ -49,11 +52,11 @@ IsStored-more all more slots places places' st same = record {
   once = st.once;
 }
 
-stored_live : (all : List Literal) (s : Slot) → s.live ≡ true → (stored_in all s).lits ≡ Some (slice_range all s.start s.end)
+stored_live : (all : List Literal) (s : Slot) → is_live s ≡ true → (stored_in all s).lits ≡ Some (slice_range all s.start s.end)
 stored_live all s live = rw live refl
 
-live_stored : (all : List Literal) (s : Slot) (ls : List Literal) → (stored_in all s).lits ≡ Some ls → s.live ≡ true
-live_stored all s ls h = elim (cases_Bool s.live) [ inl t ↦ t | inr f ↦ absurd (none-some ls (rw f at h)) ]
+live_stored : (all : List Literal) (s : Slot) (ls : List Literal) → (stored_in all s).lits ≡ Some ls → is_live s ≡ true
+live_stored all s ls h = elim (cases_Bool (is_live s)) [ inl t ↦ t | inr f ↦ absurd (none-some ls (rw f at h)) ]
 
 slot_of : (all : List Literal) (slots : List Slot) (k : ℕ) (t : Stored) → slice_get (stored_at all slots) k ≡ Some t → (s : Slot) × (slice_get slots k ≡ Some s) × (stored_in all s ≡ t)
 slot_of all [] k t h = absurd (none-some t h)
@@ -73,7 +76,7 @@ pub named_stored : (all : List Literal) (slots : List Slot) (places : Places) �
 named_stored all slots places st = are_named (stored_at all slots) (once_stored all slots places st)
 
 -- the clause of the id that a place has
-pub named_at_place : (all : List Literal) (slots : List Slot) (places : Places) (id k : ℕ) (s : Slot) → IsStored all slots places → slice_get slots k ≡ Some s → s.live ≡ true → s.id ≡ id → clause_named id (attached_in (stored_at all slots)) ≡ Some (slice_range all s.start s.end)
+pub named_at_place : (all : List Literal) (slots : List Slot) (places : Places) (id k : ℕ) (s : Slot) → IsStored all slots places → slice_get slots k ≡ Some s → is_live s ≡ true → s.id ≡ id → clause_named id (attached_in (stored_at all slots)) ≡ Some (slice_range all s.start s.end)
 named_at_place all slots places id k s st here live same =
     ap (λ n. clause_named n (attached_in (stored_at all slots))) (sym same) ∙ named_stored all slots places st k (stored_in all s) (slice_range all s.start s.end) (stored_of all slots k s here) (stored_live all s live)
 
@@ -99,7 +102,7 @@ first_or-own [] s = refl
 first_or-own (x ∷ xs) s = refl
 
 -- one more clause
-module _ (all more : List Literal) (slots : List Slot) (places places' : Places) (s : Slot) (st : IsStored all slots places) (from : s.start ≡ length all) (to : s.end ≡ length (all ++ more)) (live : s.live ≡ true) where
+module _ (all more : List Literal) (slots : List Slot) (places places' : Places) (s : Slot) (st : IsStored all slots places) (from : s.start ≡ length all) (to : s.end ≡ length (all ++ more)) (live : is_live s ≡ true) where
   pub stored_at-push : stored_at (all ++ more) (slots ++ s ∷ []) ≡ stored_at all slots ++ record { id = s.id; lits = Some more } ∷ []
   stored_at-push =
       let long : length (all ++ more) ≡ length all + length more = length-append all more in
@@ -111,7 +114,7 @@ module _ (all more : List Literal) (slots : List Slot) (places places' : Places)
 
   pub IsStored-push : LacksId slots s.id → (s.id ≡ first_or slots s.id + length slots) ⊎ (get nat_eq places' s.id ≡ Some (length slots)) → ((q : ℕ) → s.id ≢ q → get nat_eq places' q ≡ get nat_eq places q) → IsStored (all ++ more) (slots ++ s ∷ []) places'
   IsStored-push fresh own rest = record {
-    inside = All-push (λ t. (t.start ≤ t.end) × (t.end ≤ length (all ++ more))) slots s (inside_more all more slots st.inside) (omega (arith, from, to, length-append all more), omega (arith, to));
+    inside = All-push (λ t. t.end ≤ length (all ++ more)) slots s (inside_more all more slots st.inside) (omega (arith, to));
     found = λ k t here there. elim (slice_get-push slots s k t here) [
       | inl old ↦ elim (st.found k t old there) [
         | inl direct ↦ inl (direct ∙ ap (λ n. n + k) (sym (first_or-old slots s t k t.id old)))
@@ -134,13 +137,8 @@ module _ (all more : List Literal) (slots : List Slot) (places places' : Places)
     ];
   }
 
-pub lies_inside : (all : List Literal) (slots : List Slot) (k : ℕ) (s : Slot) → AllByRecursion (λ x. (x.start ≤ x.end) × (x.end ≤ length all)) slots → slice_get slots k ≡ Some s → (s.start ≤ s.end) × (s.end ≤ length all)
-lies_inside all [] k s h here = absurd (none-some s here)
-lies_inside all (x ∷ xs) zero s h here = subst (λ (y : Slot). (y.start ≤ y.end) × (y.end ≤ length all)) (same_Some x s here) h.0
-lies_inside all (x ∷ xs) (suc k) s h here = lies_inside all xs k s h.1 here
-
 -- a live slot is found at one place or the other
-pub found_missed : (slots : List Slot) (places : Places) (id k : ℕ) (s : Slot) (direct kept : Option ℕ) → AreFound slots places → slice_get slots k ≡ Some s → s.live ≡ true → s.id ≡ id → ((j : ℕ) → id ≡ first_or slots id + j → direct ≡ Some j) → kept ≡ get nat_eq places id → (IsSomeAnd direct (HoldsId slots id) → ⊥) → (IsSomeAnd kept (HoldsId slots id) → ⊥) → ⊥
+pub found_missed : (slots : List Slot) (places : Places) (id k : ℕ) (s : Slot) (direct kept : Option ℕ) → AreFound slots places → slice_get slots k ≡ Some s → is_live s ≡ true → s.id ≡ id → ((j : ℕ) → id ≡ first_or slots id + j → direct ≡ Some j) → kept ≡ get nat_eq places id → (IsSomeAnd direct (HoldsId slots id) → ⊥) → (IsSomeAnd kept (HoldsId slots id) → ⊥) → ⊥
 found_missed slots places id k s direct kept found here live same at is first second =
     let holds : HoldsId slots id k = (s, here, live, same) in
     elim (found k s here live) [
@@ -157,7 +155,7 @@ let_go-lacking : (all : List Literal) (slots : List Slot) (id : ℕ) → LacksId
 let_go-lacking all [] id h = refl
 let_go-lacking all (s ∷ ss) id h =
     let rest : let_go id (stored_at all ss) ≡ stored_at all ss = let_go-lacking all ss id (λ k t here live. h (suc k) t here live) in
-    elim (cases_Bool s.live) [
+    elim (cases_Bool (is_live s)) [
       | inl t ↦ rw (ne_eqb s.id id (h 0 s refl t)) (ap (λ (rest : List Stored). stored_in all s ∷ rest) rest)
       | inr f ↦ elim (cases_Bool (eqb s.id id)) [
         | inl same ↦ rw (same, f) (ap (λ (rest : List Stored). let x : Stored = record { id = s.id; lits = None } in x ∷ rest) rest)
@@ -168,18 +166,18 @@ let_go-lacking all (s ∷ ss) id h =
 pub let_go-none : (all : List Literal) (slots : List Slot) (id : ℕ) → LacksId slots id → stored_at all slots ≡ let_go id (stored_at all slots)
 let_go-none all slots id h = sym (let_go-lacking all slots id h)
 
-pub let_go-at : (all : List Literal) (slots : List Slot) (id k : ℕ) (s t : Slot) → ((j i : ℕ) (x y : Slot) → slice_get slots j ≡ Some x → slice_get slots i ≡ Some y → x.live ≡ true → y.live ≡ true → x.id ≡ y.id → j ≡ i) → slice_get slots k ≡ Some s → s.live ≡ true → s.id ≡ id → t.id ≡ id → t.live ≡ false → stored_at all (set slots k t) ≡ let_go id (stored_at all slots)
+pub let_go-at : (all : List Literal) (slots : List Slot) (id k : ℕ) (s t : Slot) → ((j i : ℕ) (x y : Slot) → slice_get slots j ≡ Some x → slice_get slots i ≡ Some y → is_live x ≡ true → is_live y ≡ true → x.id ≡ y.id → j ≡ i) → slice_get slots k ≡ Some s → is_live s ≡ true → s.id ≡ id → t.id ≡ id → is_live t ≡ false → stored_at all (set slots k t) ≡ let_go id (stored_at all slots)
 let_go-at all [] id k s t once here live same own dead = absurd (none-some s here)
 let_go-at all (x ∷ xs) id zero s t once here live same own dead =
     let is : x ≡ s = same_Some x s here in
     let first : x.id ≡ id = ap (λ (y : Slot). y.id) is ∙ same in
-    let alive : x.live ≡ true = ap (λ (y : Slot). y.live) is ∙ live in
+    let alive : is_live x ≡ true = ap (λ (y : Slot). is_live y) is ∙ live in
     let rest : let_go id (stored_at all xs) ≡ stored_at all xs = let_go-lacking all xs id (λ k y there also e. let n : 0 ≡ suc k = once 0 (suc k) x y refl there alive also (first ∙ sym e) in cc) in
     rw (dead, eq-eqb x.id id first, rest, own, first) refl
 let_go-at all (x ∷ xs) id (suc k) s t once here live same own dead =
     let rest : stored_at all (set xs k t) ≡ let_go id (stored_at all xs) = let_go-at all xs id k s t (λ j i a b p q l m e. let n : suc j ≡ suc i = once (suc j) (suc i) a b p q l m e in cc) here live same own dead in
     elim (cases_Bool (eqb x.id id)) [
-      | inl e ↦ elim (cases_Bool x.live) [
+      | inl e ↦ elim (cases_Bool (is_live x)) [
         | inl l ↦ absurd (let n : 0 ≡ suc k = once 0 (suc k) x s refl here l live (eqb-true x.id id e ∙ sym same) in cc)
         | inr f ↦ rw (e, f) (ap (λ (rest : List Stored). let y : Stored = record { id = x.id; lits = None } in y ∷ rest) rest)
       ]
@@ -191,17 +189,17 @@ first_or-set [] k s t id h e = absurd (none-some s h)
 first_or-set (x ∷ xs) zero s t id h e = let is : x ≡ s = same_Some x s h in e ∙ ap (λ (y : Slot). y.id) (sym is)
 first_or-set (x ∷ xs) (suc k) s t id h e = refl
 
-pub IsStored-let_go : (all : List Literal) (slots : List Slot) (places : Places) (k : ℕ) (s t : Slot) → IsStored all slots places → slice_get slots k ≡ Some s → t.id ≡ s.id → t.start ≡ s.start → t.end ≡ s.end → t.live ≡ false → IsStored all (set slots k t) places
-IsStored-let_go all slots places k s t st here own start end dead =
-    let back : (j : ℕ) (x : Slot) → slice_get (set slots k t) j ≡ Some x → x.live ≡ true → slice_get slots j ≡ Some x =
+pub IsStored-let_go : (all : List Literal) (slots : List Slot) (places : Places) (k : ℕ) (s t : Slot) → IsStored all slots places → slice_get slots k ≡ Some s → t.id ≡ s.id → t.end ≡ 0 → is_live t ≡ false → IsStored all (set slots k t) places
+IsStored-let_go all slots places k s t st here own end dead =
+    let back : (j : ℕ) (x : Slot) → slice_get (set slots k t) j ≡ Some x → is_live x ≡ true → slice_get slots j ≡ Some x =
     λ j x there live. elim (cases_eq j k) [
       | inl same ↦
           let is : t ≡ x = slice_get-set_same slots k t x (rw same at there) in
-          absurd (false≢true (sym dead ∙ ap (λ (y : Slot). y.live) is ∙ live))
+          absurd (false≢true (sym dead ∙ ap (λ (y : Slot). is_live y) is ∙ live))
       | inr apart ↦ sym (slice_get-set_other slots k t j apart) ∙ there
     ] in
     record {
-      inside = All-set (λ x. (x.start ≤ x.end) × (x.end ≤ length all)) slots k t (rw (start, end) (lies_inside all slots k s (recursion_from_All (λ x. (x.start ≤ x.end) × (x.end ≤ length all)) slots st.inside) here)) st.inside;
+      inside = All-set (λ x. x.end ≤ length all) slots k t (omega (arith, end)) st.inside;
       found = λ j x there live. elim (st.found j x (back j x there live) live) [
         | inl direct ↦ inl (direct ∙ ap (λ n. n + j) (sym (first_or-set slots k s t x.id here own)))
         | inr kept ↦ inr kept

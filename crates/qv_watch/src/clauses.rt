@@ -1,7 +1,7 @@
 //! The attached clauses, at their places and under their ids.
 
 ghost use Rattle.std.specs.Prelude.{◌≡◌, ◌≢◌, ℕ, ◌+◌, ◌<◌, [], ◌∷◌, ◌++◌, length, None, Some};
-ghost use Rattle.std.specs.Prelude.{IsTrue, ◌↔◌, IfSome, IfNone, IsSomeAnd, OnOk, OnErr, slice_get};
+ghost use Rattle.std.specs.Prelude.{IsTrue, ◌↔◌, IfOk, IfSome, IfNone, IsSomeAnd, OnOk, OnErr, slice_get};
 ghost use Rattle.std.specs.Prelude.{nat_eq, ◌⊎◌};
 ghost use Rattle.std.specs.Option.{option_copied, option_map};
 ghost use Rattle.std.specs.HashMap.{get};
@@ -14,13 +14,13 @@ use std::alloc::{AllocError, Global};
 use std::collections::HashMap;
 use std::marker::Model;
 
-// Where a clause's literals begin and end, and whether it is attached.
+// Where a clause's literals begin and end. Of one that isn't attached any more the end comes before
+// the start: so a slot has 16 bytes, and more of them are in the cache.
 #[derive(Drop)]
 pub(crate) struct Slot {
     id: u64,
-    start: usize,
-    end: usize,
-    live: bool,
+    start: u32,
+    end: u32,
 }
 
 // Clauses at places, with all their literals in one vector. A place is given once. Where no id is
@@ -63,16 +63,12 @@ impl Attached {
         ensures err { OnErr result (self.new ≡ self.old) }
     {
         self.slots.reserve(1)?;
-        let start = self.lits.len();
+        let before = self.lits.len();
+        let start = short(before)?;
+        let end = short_sum(before, lits.len())?;
         self.lits.extend_from_slice(lits)?;
-        let end = self.lits.len();
         note(&self.slots, &mut self.places, id)?;
-        self.slots.push_reserved(Slot {
-            id,
-            start,
-            end,
-            live: true,
-        });
+        self.slots.push_reserved(Slot { id, start, end });
         Ok(())
     }
 
@@ -80,7 +76,9 @@ impl Attached {
         ensures { self.new ≡ let_go id self.old }
     {
         if let Some(place) = find(&self.slots, &self.places, id) {
-            self.slots[place].live = false;
+            let slot = &mut self.slots[place];
+            slot.start = 1;
+            slot.end = 0;
         }
     }
 
@@ -102,8 +100,8 @@ impl Attached {
         ensures { option_copied result ≡ lits_in (slice_get self.now place) }
     {
         let slot = self.slots.get(place)?;
-        if slot.live {
-            Some(&self.lits[slot.start..slot.end])
+        if slot.start <= slot.end {
+            Some(&self.lits[slot.start as usize..slot.end as usize])
         } else {
             None
         }
@@ -123,6 +121,26 @@ impl Attached {
         ensures { result ≡ length self.now }
     {
         self.slots.len()
+    }
+}
+
+// A place in 32 bits, which is as many literals as there is room for.
+fn short(place: usize) -> Result<u32, AllocError>
+    ensures { IfOk result (λ short. short ≡ place) }
+{
+    match u32::try_from(place) {
+        Ok(short) => Ok(short),
+        Err(_) => Err(AllocError),
+    }
+}
+
+// The place so many behind another.
+fn short_sum(place: usize, more: usize) -> Result<u32, AllocError>
+    ensures { IfOk result (λ sum. sum ≡ place + more) }
+{
+    match place.checked_add(more) {
+        Some(sum) => short(sum),
+        None => Err(AllocError),
     }
 }
 
@@ -185,7 +203,7 @@ fn has_at(slots: &[Slot], at: Option<usize>, id: u64) -> bool
         return false;
     };
     match slots.get(k) {
-        Some(slot) => slot.live && slot.id == id,
+        Some(slot) => slot.start <= slot.end && slot.id == id,
         None => false,
     }
 }

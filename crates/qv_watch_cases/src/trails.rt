@@ -262,10 +262,9 @@ impl TrailCase {
 
 impl Cases for TrailCase {
     fn answer(&mut self, words: &mut Words<'_>, out: &mut Answer) {
-        let is_trail = words.passes("trail");
         match words.pick(&CALLS) {
-            Some(call) if is_trail => self.call(call, words, out),
-            _ => out.refuse(),
+            Some(call) => self.call(call, words, out),
+            None => out.refuse(),
         }
     }
 }

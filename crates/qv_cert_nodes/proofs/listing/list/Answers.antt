@@ -54,8 +54,8 @@ list_operator-requires-clause-rank c =
     ap (λ (ks : List ℕ). has_rank (Apply c.in-OpNode.op (trees_of_nodes l ks))) c.deref.ensures.value
     ∙ passes (has_rank (Apply c.in-OpNode.op (trees_of_nodes l c.in-OpNode.kids.items))) f.1.1.0
 
-pub list_term-requires : goal.list_term-requires
-list_term-requires c =
+pub list_term-requires-clause-node : goal.list_term-requires-clause-node
+list_term-requires-clause-node c =
     let p = problem_in c.args.store.now c.args.problem.now in
     let l = listed_in c.args.store.now c.args.listed.now in
     let line = Skolem c.in-Skolem.place c.in-Skolem.node in
@@ -63,6 +63,18 @@ list_term-requires c =
     subst (λ (x : Line). first_fit (faults_of p l (cert_line_of x)) ≡ None) c.in-Skolem.is c.requires.clean in
     let f = clear (faults_of p l line) clean in
     node-of c.args.store.now c.args.listed.now c.in-Skolem.node (passes (is_node l c.in-Skolem.node) f.0)
+
+pub list_term-requires-clause-place : goal.list_term-requires-clause-place
+list_term-requires-clause-place c =
+    let p = problem_in c.args.store.now c.args.problem.now in
+    let l = listed_in c.args.store.now c.args.listed.now in
+    let line = Skolem c.in-Skolem.place c.in-Skolem.node in
+    let clean : first_fit (faults_of p l line) ≡ None =
+    subst (λ (x : Line). first_fit (faults_of p l (cert_line_of x)) ≡ None) c.in-Skolem.is c.requires.clean in
+    let f = clear (faults_of p l line) clean in
+    let place = place-there c.args.store.now c.args.problem.now is_existential c.in-Skolem.place c.requires.posed.problem (passes (is_place is_existential p c.in-Skolem.place) f.1.0) in
+    let within : c.in-Skolem.place < length c.args.problem.now.prefix.items = place-within c.args.problem.now c.in-Skolem.place place in
+    omega (arith, within)
 
 pub list_instance-requires-clause-node : goal.list_instance-requires-clause-node
 list_instance-requires-clause-node c =

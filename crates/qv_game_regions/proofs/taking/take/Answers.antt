@@ -35,8 +35,8 @@ put_in-requires-clause-sorts c =
     (subst (λ (q : List (Option ℕ)). HasTheirSorts (put_by_level mid q) (tree_at old c.args.later)) (sym slots)
     (subst (λ (f : ℕ → Option Tree). HasTheirSorts f (tree_at old c.args.later)) (sym (slots-are mid first terms)) sorts))
 
-pub simplify-requires-clause-free : goal.simplify-requires-clause-free
-simplify-requires-clause-free c =
+pub reduce-requires-clause-free : goal.reduce-requires-clause-free
+reduce-requires-clause-free c =
     let old = c.args.store.now in
     let mid = c.choose.new.store in
     let first = c.args.first in
@@ -54,12 +54,12 @@ pub returns-clause-chosen : goal.returns-clause-chosen
 returns-clause-chosen c =
     let old = c.args.store.now in
     let mid = c.choose.new.store in
-    let new = c.simplify.new.store in
+    let new = c.reduce.new.store in
     let first = c.args.first in
     let terms = c.in_ok-terms.terms.items in
     let later = tree_at old c.args.later in
     let point = c.args.point.now in
-    let grows = grows-more mid c.put_in.new.self new c.put_in.ensures.grows c.simplify.ensures.grows in
+    let grows = grows-more mid c.put_in.new.self new c.put_in.ensures.grows c.reduce.ensures.grows in
     let named-same : named new terms ≡ named mid terms = named-grows mid new grows terms c.in_ok-terms.ensures.below in
     subst (λ (ts : List Tree). AreChosen first (length point) (values_of point) later first (drop first (sorts_of point)) ts) (sym named-same)
     c.in_ok-terms.ensures.chosen
@@ -68,7 +68,7 @@ pub returns-clause-region : goal.returns-clause-region
 returns-clause-region c =
     let old = c.args.store.now in
     let mid = c.choose.new.store in
-    let new = c.simplify.new.store in
+    let new = c.reduce.new.store in
     let first = c.args.first in
     let terms = c.in_ok-terms.terms.items in
     let later = tree_at old c.args.later in
@@ -78,7 +78,7 @@ returns-clause-region c =
     let led : tree_at c.put_in.new.self c.in_ok-led.led ≡ with_terms first (named mid terms) later =
     c.in_ok-led.ensures.id.tree ∙ ap (λ (q : List (Option ℕ)). replaced (put_by_level mid q) (tree_at mid c.args.later)) slots
     ∙ slots-led mid first terms (tree_at mid c.args.later) ∙ ap (with_terms first (named mid terms)) same in
-    let grows = grows-more mid c.put_in.new.self new c.put_in.ensures.grows c.simplify.ensures.grows in
+    let grows = grows-more mid c.put_in.new.self new c.put_in.ensures.grows c.reduce.ensures.grows in
     let named-same : named new terms ≡ named mid terms = named-grows mid new grows terms c.in_ok-terms.ensures.below in
     let made : IsSimplified (tree_at new c.in_ok-region.region) (tree_at c.put_in.new.self c.in_ok-led.led) =
     record { stands = c.in_ok-region.ensures.stands_for; small = c.in_ok-region.ensures.no_more; simple = c.in_ok-region.ensures.simple } in
@@ -89,7 +89,7 @@ pub returns-in_err-led-clause-grows : goal.returns-in_err-led-clause-grows
 returns-in_err-led-clause-grows c = grows-more c.args.store.now c.choose.new.store c.put_in.new.self c.choose.ensures.grows c.put_in.ensures.grows
 
 pub returns-in_err-region-clause-grows : goal.returns-in_err-region-clause-grows
-returns-in_err-region-clause-grows c = grows-more c.args.store.now c.put_in.new.self c.simplify.new.store (grows-more c.args.store.now c.choose.new.store c.put_in.new.self c.choose.ensures.grows c.put_in.ensures.grows) c.simplify.ensures.grows
+returns-in_err-region-clause-grows c = grows-more c.args.store.now c.put_in.new.self c.reduce.new.store (grows-more c.args.store.now c.choose.new.store c.put_in.new.self c.choose.ensures.grows c.put_in.ensures.grows) c.reduce.ensures.grows
 
 pub returns-clause-grows : goal.returns-clause-grows
-returns-clause-grows c = grows-more c.args.store.now c.put_in.new.self c.simplify.new.store (grows-more c.args.store.now c.choose.new.store c.put_in.new.self c.choose.ensures.grows c.put_in.ensures.grows) c.simplify.ensures.grows
+returns-clause-grows c = grows-more c.args.store.now c.put_in.new.self c.reduce.new.store (grows-more c.args.store.now c.choose.new.store c.put_in.new.self c.choose.ensures.grows c.put_in.ensures.grows) c.reduce.ensures.grows

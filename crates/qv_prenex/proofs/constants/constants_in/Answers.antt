@@ -1,4 +1,4 @@
-use Rattle.std.proofs.Common.{◌≡◌, ◌<◌, ◌+◌, [], ℕ, List, length, map, ap, subst, sym, ◌∙◌, arith}
+use Rattle.std.proofs.Common.{◌≡◌, ◌<◌, ◌+◌, [], ℕ, List, length, map, take, ap, subst, sym, ◌∙◌, arith}
 use Rattle.std.specs.Prelude.{All}
 use Rattle.std.proofs.lemmas.List.{take_all, length-map}
 use Rattle.qv_words.specs.Tree.{Tree}
@@ -7,7 +7,7 @@ use Rattle.qv_words.specs.Truth.{constants_of_each}
 use Rattle.qv_store.specs.Nodes.{tree_at}
 use Rattle.qv_store.specs.Walks.{named}
 use Rattle.qv_prenex.specs.Constants.{pair_of, with_own}
-use Rattle.qv_prenex.proofs.Leaves.{heaped, heaped-none, heaped-order, order-more, order-fewer}
+use Rattle.qv_prenex.proofs.Leaves.{heaped, heaped-none, heaped-order, kept-in-order, order-more, order-fewer}
 use Rattle.qv_prenex.proofs.constants.constants_in.Goals as goal
 
 pub terms-init : goal.terms-init
@@ -21,6 +21,10 @@ node-requires c =
     let all : All (λ n. n < length c.args.store.now) c.ids-id-items.result.now =
     subst (λ (xs : List ℕ). All (λ n. n < length c.args.store.now) xs) (sym c.ids-id-items.ensures) c.in_ok-terms.ensures.walk.within in
     subst (λ (n : ℕ). n < length c.args.store.now) (sym c.id-item.is) (all c.terms.id-index c.id-item.result c.terms-test.true)
+
+pub put_own-requires : goal.put_own-requires
+put_own-requires c =
+    kept-in-order c.terms.constants.items (heaped (named c.args.store.now (take c.terms.id-index c.ids-id-items.result.now)) []) c.terms.invariant.order
 
 pub terms-preserved : goal.terms-preserved
 terms-preserved c =

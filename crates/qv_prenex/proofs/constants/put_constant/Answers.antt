@@ -4,13 +4,16 @@ use Rattle.std.proofs.lemmas.List.{get_or-map, length-map, map-append, take-map,
 use Rattle.qv_words.specs.declared.sort.Sort.{Sort}
 use Rattle.qv_words.specs.Problem.{with_constant}
 use Rattle.qv_prenex.specs.declared.constants.Constant.{Constant}
-use Rattle.qv_prenex.specs.Constants.{pair_of}
+use Rattle.qv_prenex.specs.Constants.{pair_of, AreInOrder}
 use Rattle.qv_prenex.proofs.Leaves.{either, place-there, place-before, place-last}
 use Rattle.qv_prenex.proofs.constants.put_constant.Goals as goal
 
 abbrev Front : ℕ → Sort → ℕ → List Constant → Type 0
 Front index s at cs =
     with_constant (index, s) (map pair_of cs) ≡ take at (map pair_of cs) ++ with_constant (index, s) (drop at (map pair_of cs))
+
+pub place_for-at-requires : goal.place_for-at-requires
+place_for-at-requires c = subst AreInOrder (sym c.deref.ensures.value) c.requires
 
 pub returns-then-has_index : goal.returns-then-has_index
 returns-then-has_index c =

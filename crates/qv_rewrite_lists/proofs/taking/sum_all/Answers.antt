@@ -1,14 +1,15 @@
 use Rattle.std.proofs.Common.{◌<◌, length, arith}
 use Rattle.std.proofs.lemmas.List.Elements.{All-from_recursion}
+use Rattle.qv_words.specs.Sums.{summed}
 use Rattle.qv_store.proofs.Replacement.{grows-more}
 use Rattle.qv_rewrite.proofs.Waiting.{grows-itself, length-grows}
-use Rattle.qv_rewrite_lists.proofs.Summing.{summed-below, summed-more, summed-pass, summed-whole}
+use Rattle.qv_rewrite_lists.proofs.Making.{made-below, made-more, made-pass, made-whole}
 use Rattle.qv_rewrite_lists.proofs.taking.sum_all.Goals as goal
 
 pub formulas-init : goal.formulas-init
 formulas-init c = record {
   grows = grows-itself c.args.store.now;
-  summed = rw c.new-sums.ensures.items tt;
+  made = rw c.new-sums.ensures.items tt;
 }
 
 pub sum-requires : goal.sum-requires
@@ -19,20 +20,20 @@ sum-requires c =
 pub formulas-preserved : goal.formulas-preserved
 formulas-preserved c = record {
   grows = grows-more c.args.store.now c.formulas.store c.sum.new.store c.formulas.invariant.grows c.sum.ensures.grows;
-  summed = rw c.in_ok-push.ensures.items
-      (summed-more c.args.store.now c.formulas.store c.sum.new.store c.args.list.now c.formulas.sums.items c.formulas.id-index c.id-item.result c.in_ok-made.made c.formulas-test.true c.id-item.is (rw c.id-item.is (c.requires c.formulas.id-index c.id-item.result c.formulas-test.true)) c.formulas.invariant.grows c.sum.ensures.grows c.formulas.invariant.summed c.in_ok-made.ensures.id);
+  made = rw c.in_ok-push.ensures.items
+      (made-more summed c.args.store.now c.formulas.store c.sum.new.store c.args.list.now c.formulas.sums.items c.formulas.id-index c.id-item.result c.in_ok-made.made c.formulas-test.true c.id-item.is (rw c.id-item.is (c.requires c.formulas.id-index c.id-item.result c.formulas-test.true)) c.formulas.invariant.grows c.sum.ensures.grows c.formulas.invariant.made c.in_ok-made.ensures.id);
 }
 
 pub returns-clause-list : goal.returns-clause-list
 returns-clause-list c =
-    summed-pass c.args.store.now c.formulas.store c.args.list.now c.formulas.sums.items
-    (summed-whole c.args.store.now c.formulas.store c.args.list.now c.formulas.sums.items c.formulas.id-index c.formulas-test.false c.formulas.invariant.summed)
+    made-pass summed c.args.store.now c.formulas.store c.args.list.now c.formulas.sums.items
+    (made-whole summed c.args.store.now c.formulas.store c.args.list.now c.formulas.sums.items c.formulas.id-index c.formulas-test.false c.formulas.invariant.made)
 
 pub returns-clause-below : goal.returns-clause-below
 returns-clause-below c =
     All-from_recursion (λ m. m < length c.formulas.store) c.formulas.sums.items
-    (summed-below c.args.store.now c.formulas.store c.args.list.now c.formulas.sums.items
-    (summed-whole c.args.store.now c.formulas.store c.args.list.now c.formulas.sums.items c.formulas.id-index c.formulas-test.false c.formulas.invariant.summed))
+    (made-below summed c.args.store.now c.formulas.store c.args.list.now c.formulas.sums.items
+    (made-whole summed c.args.store.now c.formulas.store c.args.list.now c.formulas.sums.items c.formulas.id-index c.formulas-test.false c.formulas.invariant.made))
 
 pub returns-in_err-push-clause-grows : goal.returns-in_err-push-clause-grows
 returns-in_err-push-clause-grows c = grows-more c.args.store.now c.formulas.store c.sum.new.store c.formulas.invariant.grows c.sum.ensures.grows

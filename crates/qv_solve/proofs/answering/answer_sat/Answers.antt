@@ -1,4 +1,4 @@
-use Rattle.std.proofs.Common.{◌<◌, List, length, sym, ap, ◌∙◌, subst}
+use Rattle.std.proofs.Common.{◌≡◌, ◌<◌, ℕ, List, length, sym, ap, ◌∙◌, subst}
 use Rattle.std.specs.Prelude.{All}
 use Rattle.std.proofs.lemmas.List.{length-map}
 use Rattle.qv_words.specs.declared.op.Answer.TheVariants.{Sat}
@@ -16,11 +16,12 @@ use Rattle.qv_skolem.specs.Skolems.{skolems_in, IsNeverTrue}
 use Rattle.qv_solve_write.specs.Said.{lines_said}
 use Rattle.qv_solve_draw.specs.Drawing.{IsListing}
 use Rattle.qv_solve_draw.specs.Values.{AreExistential, HaveSorts, values_of}
+use Rattle.qv_solve_refute.specs.Refuting.{variable_limit}
 use Rattle.qv_solve_section.specs.Sections.{IsClosed, IsCounted, formulas_of, task_of}
 use Rattle.qv_solve_section.specs.Measured.{EachIsForFinal}
 use Rattle.qv_meter.specs.Units.{Final}
 use Rattle.qv_meter.specs.Records.{in_lane}
-use Rattle.qv_solve.proofs.Metered.{CountsInstances, charged-counts, charged-instances, conflicts-instances}
+use Rattle.qv_solve.proofs.Metered.{CountsInstances, charged-counts, charged-instances, conflicts-instances, conflicts-limit}
 use Rattle.qv_solve.proofs.Owed.{owed-sat}
 use Rattle.qv_solve.proofs.answering.answer_sat.Goals as goal
 
@@ -93,6 +94,7 @@ returns-clause-solution c =
     let same = problem-grown c.args.store.now mid c.draw_terms.ensures.grows c.args.problem.now c.requires.posed in
     let own : SkolemOk p (chain p es) = subst (SkolemOk p) c.in_ok-drawn.ensures.terms c.in_ok-drawn.ensures.listing.section in
     let charged = conflicts-instances (in_lane Final c.args.meter.now) c.close.new.meter (length c.args.entries.now) c.in_ok-closing.ensures.charged (charged-instances p (length c.args.entries.now) c.args.meter.now c.requires.«record») in
+    let limit : variable_limit c.args.meter.now ≡ variable_limit c.close.new.meter = conflicts-limit (in_lane Final c.args.meter.now) c.close.new.meter c.in_ok-closing.ensures.charged in
     record {
       section = subst (λ (q : Problem). IsCounted (task_of q c.args.number) Sat lines whole.variables) same c.in_ok-closing.ensures.section;
       form = c.in_ok-closing.ensures.form;
@@ -103,7 +105,7 @@ returns-clause-solution c =
         played = c.requires.played;
         won = c.requires.won;
         list = c.in_ok-drawn.ensures.terms;
-        closed = subst (λ (q : Problem). IsClosed q c.args.number Sat given lines) same c.in_ok-closing.ensures.closed;
+        closed = subst (λ (n : ℕ). IsClosed p c.args.number Sat n given lines) limit (subst (λ (q : Problem). IsClosed q c.args.number Sat (variable_limit c.args.meter.now) given lines) same c.in_ok-closing.ensures.closed);
         counted = subst (CountsInstances c.close.new.meter) (sym (length-map c.args.entries.now (entry_in c.args.store.now))) charged;
       };
       values = record {

@@ -1,4 +1,4 @@
-use Rattle.std.proofs.Common.{◌+◌, ℕ, length, sym, subst}
+use Rattle.std.proofs.Common.{◌≡◌, ◌+◌, ℕ, length, sym, subst}
 use Rattle.std.proofs.lemmas.List.{length-map}
 use Rattle.qv_words.specs.declared.op.Answer.TheVariants.{Unsat}
 use Rattle.qv_words.specs.Problem.{Problem}
@@ -12,11 +12,12 @@ use Rattle.qv_expand.proofs.OneLine.{posed-grown, problem-grown}
 use Rattle.qv_game.proofs.Counting.{same-transitive}
 use Rattle.qv_solve_write.specs.Said.{lines_said}
 use Rattle.qv_solve_draw.specs.Drawing.{IsListing}
+use Rattle.qv_solve_refute.specs.Refuting.{variable_limit}
 use Rattle.qv_solve_section.specs.Sections.{IsClosed, IsCounted, formulas_of, task_of}
 use Rattle.qv_solve_section.specs.Measured.{EachIsForFinal}
 use Rattle.qv_meter.specs.Units.{Final}
 use Rattle.qv_meter.specs.Records.{in_lane}
-use Rattle.qv_solve.proofs.Metered.{CountsInstances, charged-counts, charged-instances, conflicts-instances, entries-counted, lines-counted, only-counts}
+use Rattle.qv_solve.proofs.Metered.{CountsInstances, charged-counts, charged-instances, conflicts-instances, conflicts-limit, entries-counted, lines-counted, only-counts}
 use Rattle.qv_solve.proofs.Owed.{owed-unsat}
 use Rattle.qv_solve.proofs.answering.answer_unsat.Goals as goal
 
@@ -67,6 +68,7 @@ returns-clause-solution c =
     let own : IsExpansion p (tree_of p es) = subst (IsExpansion p) c.in_ok-written.ensures.tree c.in_ok-written.ensures.listing.section in
     let drawn = lines-counted p (length c.args.entries.now) many c.args.meter.now c.draw_lines.new.meter c.requires.«record» c.in_ok-written.ensures.counted in
     let charged = conflicts-instances (in_lane Final c.draw_lines.new.meter) c.close.new.meter (length c.args.entries.now + many) c.in_ok-closing.ensures.charged (charged-instances p (length c.args.entries.now + many) c.draw_lines.new.meter drawn) in
+    let limit : variable_limit c.draw_lines.new.meter ≡ variable_limit c.close.new.meter = conflicts-limit (in_lane Final c.draw_lines.new.meter) c.close.new.meter c.in_ok-closing.ensures.charged in
     record {
       section = subst (λ (q : Problem). IsCounted (task_of q c.args.number) Unsat lines whole.variables) same c.in_ok-closing.ensures.section;
       form = c.in_ok-closing.ensures.form;
@@ -77,7 +79,7 @@ returns-clause-solution c =
         played = c.requires.played;
         won = c.requires.won;
         list = c.in_ok-written.ensures.tree;
-        closed = subst (λ (q : Problem). IsClosed q c.args.number Unsat given lines) same c.in_ok-closing.ensures.closed;
+        closed = subst (λ (n : ℕ). IsClosed p c.args.number Unsat n given lines) limit (subst (λ (q : Problem). IsClosed q c.args.number Unsat (variable_limit c.draw_lines.new.meter) given lines) same c.in_ok-closing.ensures.closed);
         counted = subst (λ (n : ℕ). CountsInstances c.close.new.meter (n + many)) (sym (length-map c.args.entries.now (entry_in c.args.store.now))) charged;
       };
       values = tt;

@@ -1,5 +1,0 @@
-use Rattle.std.proofs.Common.{◌≤◌, ◌+◌, ◌^◌}
-use Rattle.qv_circuits_cases.proofs.cases.arguments.Given as goal
-
-abbrev pub invariant-sorts : goal.invariant-sorts
-invariant-sorts l = (1 ≤ l.next) × (l.next ≤ 2 ^ 30 + 1)

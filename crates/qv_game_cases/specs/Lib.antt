@@ -1,2 +1,0 @@
--- the inside
-pub mod Scripts

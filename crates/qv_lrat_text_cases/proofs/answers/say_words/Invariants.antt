@@ -1,5 +1,0 @@
-use Rattle.std.proofs.Common.{length}
-use Rattle.qv_lrat_text_cases.proofs.answers.say_words.Given as goal
-
-abbrev pub decreases-loop-word : goal.decreases-loop-word
-decreases-loop-word l = length l.rest

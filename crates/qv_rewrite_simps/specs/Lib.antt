@@ -1,0 +1,2 @@
+-- the inside
+pub mod Held

@@ -1,5 +1,0 @@
-use Rattle.qv_solve_offer.specs.Sharing.{IsShared}
-use Rattle.qv_solve_offer_cases.proofs.checks.say_all.Given as goal
-
-abbrev pub invariant-checks : goal.invariant-checks
-invariant-checks l = IsShared l.store l.shared
