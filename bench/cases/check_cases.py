@@ -658,27 +658,23 @@ def by_hand():
     for rule in ["fold", "same", "not-not", "unit", "absorb", "ite-known", "ite-same", "add-zero", "mul-one", "mul-zero", "melt"]:
         row([], f"qbv-cert 2\ncheck 1 sat\nw {rule}\nlrat\n3 0 1 2 0\nend\n")
     row([], "qbv-cert 2\ncheck 1 sat\nw fold\nn 1 c 2 0\nlrat\n3 0 1 2 0\nend\n")
-    note("The pass of sums.")
-    for name in ["sum", "su", "summ", "sums"]:
-        row([], f"qbv-cert 2\ncheck 1 sat\nw {name}\nlrat\n3 0 1 2 0\nend\n")
-    for formulas, begin in [(DISTRIBUTED, "check 1 sat\n"), (ODD, "check 1 unsat\ne 1 0\n")]:
-        for lines in ["w sum\n", "", "w fold\n", "w fold\nw sum\nw same\n"]:
-            row(formulas, f"qbv-cert 2\n{begin}{lines}lrat\n3 0 1 2 0\nend\n")
-        row(formulas, f"qbv-cert 1\n{begin}w sum\nlrat\n3 0 1 2 0\nend\n")
-    note("The pass of exclusive or.")
-    for name in ["xor", "xo", "xors"]:
-        row([], f"qbv-cert 2\ncheck 1 sat\nw {name}\nlrat\n3 0 1 2 0\nend\n")
-    for formulas, begin in [(TURNED, "check 1 sat\n"), (OPPOSITE, "check 1 unsat\ne 1 0\n"), (ODD, "check 1 unsat\ne 1 0\n")]:
-        for lines in ["w xor\n", "", "w sum\n", "w fold\nw xor\nw same\n"]:
-            row(formulas, f"qbv-cert 2\n{begin}{lines}lrat\n3 0 1 2 0\nend\n")
-        row(formulas, f"qbv-cert 1\n{begin}w xor\nlrat\n3 0 1 2 0\nend\n")
-    note("The pass of small rules.")
-    for name in ["simp", "sim", "simps"]:
-        row([], f"qbv-cert 2\ncheck 1 sat\nw {name}\nlrat\n3 0 1 2 0\nend\n")
-    for formulas, begin in [(BOUNDED, "check 1 sat\n"), (SHIFTED, "check 1 unsat\ne 1 0\n"), (OPPOSITE, "check 1 unsat\ne 1 0\n"), (ODD, "check 1 unsat\ne 1 0\n")]:
-        for lines in ["w simp\n", "", "w xor\n", "w simp\nw fold\n", "w fold\nw unit\nw same\n"]:
-            row(formulas, f"qbv-cert 2\n{begin}{lines}lrat\n3 0 1 2 0\nend\n")
-        row(formulas, f"qbv-cert 1\n{begin}w simp\nlrat\n3 0 1 2 0\nend\n")
+    won, lost = "check 1 sat\n", "check 1 unsat\ne 1 0\n"
+    passes = [
+        ("sums", ["sum", "su", "summ", "sums"], [(DISTRIBUTED, won), (ODD, lost)],
+         ["w sum\n", "", "w fold\n", "w fold\nw sum\nw same\n"]),
+        ("exclusive or", ["xor", "xo", "xors"], [(TURNED, won), (OPPOSITE, lost), (ODD, lost)],
+         ["w xor\n", "", "w sum\n", "w fold\nw xor\nw same\n"]),
+        ("small rules", ["simp", "sim", "simps"], [(BOUNDED, won), (SHIFTED, lost), (OPPOSITE, lost), (ODD, lost)],
+         ["w simp\n", "", "w xor\n", "w simp\nw fold\n", "w fold\nw unit\nw same\n"]),
+    ]
+    for what, names, problems, lists in passes:
+        note(f"The pass of {what}.")
+        for name in names:
+            row([], f"qbv-cert 2\ncheck 1 sat\nw {name}\nlrat\n3 0 1 2 0\nend\n")
+        for formulas, begin in problems:
+            for lines in lists:
+                row(formulas, f"qbv-cert 2\n{begin}{lines}lrat\n3 0 1 2 0\nend\n")
+            row(formulas, f"qbv-cert 1\n{begin}w {names[0]}\nlrat\n3 0 1 2 0\nend\n")
     note("An unknown section.")
     for cert in ["qbv-cert 1\ncheck 1 unknown\nend\n", "qbv-cert 2\ncheck 1 unknown\nlrat\nend\n", "qbv-cert 1\ncheck 1 unknown\nn 1 c 2 0\nend\n",
                  "qbv-cert 2\ncheck 1 unknown\nw melt\nend\n", "qbv-cert 2\ncheck 1 unknown\nw fold\nend\n", "qbv-cert 1\ncheck 2 unknown\nend\n",

@@ -14,9 +14,8 @@ becomes. In them x stands for any word and p for any truth value of the sort tha
 import random
 import sys
 
+from pass_rows import at_row, check, pass_row, present, read, twice
 from rewrite_cases import SORTS, at_point, literal, random_known, random_term, show, sort_of, value_of
-from sum_cases import twice
-from word_cases import evaluate
 
 TABLE = """
 and p 0 > 0     and p * > p     or p 0 > p      or p * > *      xor p 0 > p     xor p * > not p
@@ -196,25 +195,6 @@ def compares(op):
     return op[:3] in ["bvu", "bvs"] and op[3:] in ["lt", "le", "gt", "ge"]
 
 
-def check(chosen):
-    for text, made in EXAMPLES:
-        assert show(simped(read(text))) == made, (text, show(simped(read(text))))
-    count = same = stay = 0
-    for i in range(6000):
-        sort = chosen.choice(SORTS)
-        make = [random_term, random_known, random_small, random_small][i % 4]
-        t = at_point(make(chosen, sort, chosen.randrange(1, 6)))
-        made = simped(t)
-        assert sort_of(made) == sort_of(t), (t, made)
-        for _ in range(4):
-            words = [[(of, chosen.randrange(2 if of == "bool" else 2**of)) for of in SORTS for _ in range(2)] for _ in range(2)]
-            assert evaluate(t, *words) == evaluate(made, *words), (t, made)
-        count += 1
-        same += simped(made) == made
-        stay += made == t
-    print(f"{len(EXAMPLES)} examples, {count} terms keep their values, {same} stay in a second pass, {stay} in the first")
-
-
 # the terms of proofs/SimpsExample.antt, and what becomes of them
 EXAMPLES = [
     # a literal beside a term
@@ -247,33 +227,7 @@ EXAMPLES = [
 ]
 
 
-def read(text):
-    stack = []
-    for word in text.split():
-        arity = 0 if word[0] in "cv8" or word[:5] == "bool:" or word[:2] == "1:" else 1 if word in ["not", "bvneg", "bvnot"] else 3 if word == "ite" else 2
-        if arity:
-            args = stack[-arity:]
-            del stack[-arity:]
-            stack.append((word, args))
-        else:
-            stack.append(word)
-    return stack[0]
-
-
 # --- rows -------------------------------------------------------------------------------------------
-
-
-def simp_row(t):
-    return f"pass simp {show(t)}", show(simped(t))
-
-
-def at_row(chosen, t):
-    """The term that is made, and the value before and after, at words for two constants and variables of each sort."""
-    words = [[(of, chosen.randrange(2 if of == "bool" else 2**of)) for of in SORTS for _ in range(2)] for _ in range(2)]
-    sides = [" ".join(literal(of, v) for of, v in side) for side in words]
-    made = simped(t)
-    values = " ".join(literal(*evaluate(u, *words)) for u in [t, made])
-    return f"at simp {sides[0]} | {sides[1]} | {show(t)}", f"{show(made)} {values}"
 
 
 def made_of(chosen, i):
@@ -302,15 +256,15 @@ def rows(chosen):
     for t in each_row():
         if repr(t) not in seen:
             seen.add(repr(t))
-            yield simp_row(t)
+            yield pass_row("simp", simped, t)
     for t in [("repeat:1", ["v0:8"]), ("repeat:2", ["v0:8"]), ("zero_extend:0", ["v0:8"]), ("zero_extend:1", ["v0:8"]), ("sign_extend:0", ["v0:8"]),
               ("rotate_right:0", ["v0:8"]), ("rotate_right:16", ["v0:8"]), ("rotate_right:9", ["v0:8"]), ("rotate_left:8", ["v0:8"]),
               ("rotate_left:3", ["v0:8"]), ("extract:7:0", ["v0:8"]), ("extract:7:1", ["v0:8"]), ("extract:6:0", ["v0:8"]), ("extract:0:0", ["v0:1"])]:
-        yield simp_row(t)
+        yield pass_row("simp", simped, t)
     yield "", None
     yield "# shared terms, each joined with itself", None
     for op, t in [("bvadd", "v0:8"), ("bvand", "v0:8"), ("bvnor", "v0:8"), ("=>", "v0:bool"), ("bvudiv", "v0:8")]:
-        yield simp_row(twice(op, t, 9))
+        yield pass_row("simp", simped, twice(op, t, 9))
     yield "", None
     yield "# terms without rows", None
     for text in ["pass simp v0:8 v1:8", "pass simp v0:8 v1:4 bvxor", "pass simps v0:8", "at simp | v0:8"]:
@@ -318,11 +272,11 @@ def rows(chosen):
     yield "", None
     yield "# random terms", None
     for i in range(400):
-        yield simp_row(made_of(chosen, i))
+        yield pass_row("simp", simped, made_of(chosen, i))
     yield "", None
     yield "# and with values", None
     for i in range(120):
-        yield at_row(chosen, at_point(made_of(chosen, i)))
+        yield at_row("simp", simped, chosen, at_point(made_of(chosen, i)))
 
 
 # --- the rules, for a solver -----------------------------------------------------------------------------
@@ -350,10 +304,10 @@ def scripts():
 
 def main():
     if "--show" in sys.argv:
-        for text, _ in EXAMPLES:
-            print(f"{text}  ->  {show(simped(read(text)))}")
+        present(simped, EXAMPLES)
     elif "--check" in sys.argv:
-        check(random.Random(1000))
+        chosen = random.Random(1000)
+        check(simped, EXAMPLES, (at_point(made_of(chosen, i)) for i in range(6000)), chosen)
     elif "--smt" in sys.argv:
         print("\n(reset)\n".join(scripts()))
 

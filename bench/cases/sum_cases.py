@@ -11,8 +11,8 @@ to a pair of its coefficient and the factors as they first came.
 import random
 import sys
 
+from pass_rows import at_row, check, pass_row, present, twice
 from rewrite_cases import SORTS, at_point, literal, random_known, random_term, show, sort_of, value_of
-from word_cases import evaluate
 
 MOST_RAW, MOST_MONOMIALS, MOST_FACTORS = 48, 24, 4
 
@@ -175,26 +175,6 @@ def random_sum(chosen, sort, depth):
     return op, [a, b]
 
 
-def check(chosen):
-    for text, made in EXAMPLES:
-        assert show(summed(read(text))) == made, text
-    count = same = stay = 0
-    for i in range(2000):
-        sort = chosen.choice(SORTS)
-        make = [random_term, random_known, random_sum, random_sum][i % 4]
-        t = at_point(make(chosen, sort, chosen.randrange(1, 5)))
-        made = summed(t)
-        assert sort_of(made) == sort_of(t), (t, made)
-        again = summed(made)
-        for _ in range(4):
-            words = [[(of, chosen.randrange(2 if of == "bool" else 2**of)) for of in SORTS for _ in range(2)] for _ in range(2)]
-            assert evaluate(t, *words) == evaluate(made, *words), (t, made)
-        count += 1
-        same += again == made
-        stay += made == t
-    print(f"{len(EXAMPLES)} examples, {count} terms keep their values, {same} stay in a second pass, {stay} in the first")
-
-
 FOURTH, SQUARE = "v0:8 v0:8 bvmul v0:8 bvmul v0:8 bvmul", "v0:8 v0:8 bvmul"
 
 
@@ -241,40 +221,12 @@ EXAMPLES = [
 ]
 
 
-def read(text):
-    stack = []
-    for word in text.split():
-        arity = 0 if ":" in word else 1 if word in ["not", "bvneg", "bvnot"] else 3 if word == "ite" else 2
-        if arity:
-            args = stack[-arity:]
-            del stack[-arity:]
-            stack.append((word, args))
-        else:
-            stack.append(word)
-    return stack[0]
-
-
 # --- rows -------------------------------------------------------------------------------------------
 
 
-def sum_row(t):
-    return f"pass sum {show(t)}", show(summed(t))
-
-
-def at_row(chosen, t):
-    """The term that is made, and the value before and after, at words for two constants and variables of each sort."""
-    words = [[(of, chosen.randrange(2 if of == "bool" else 2**of)) for of in SORTS for _ in range(2)] for _ in range(2)]
-    sides = [" ".join(literal(of, v) for of, v in side) for side in words]
-    made = summed(t)
-    values = " ".join(literal(*evaluate(u, *words)) for u in [t, made])
-    return f"at sum {sides[0]} | {sides[1]} | {show(t)}", f"{show(made)} {values}"
-
-
-def twice(op, t, times):
-    """A term joined with itself, again and again: small as nodes that are shared."""
-    for _ in range(times):
-        t = op, [t, t]
-    return t
+def made_of(chosen, i):
+    make = [random_term, random_known, random_sum, random_sum][i % 4]
+    return make(chosen, chosen.choice(SORTS), chosen.randrange(1, 5))
 
 
 def rows(chosen):
@@ -284,7 +236,7 @@ def rows(chosen):
     yield "", None
     yield "# shared terms, each joined with itself: products stay below 4 factors, and powers of two of them are 0", None
     for t in [twice("bvadd", "v0:8", 9), twice("bvmul", "v0:8", 4), twice("bvadd", ("bvadd", ["v0:8", "v1:8"]), 6)]:
-        yield sum_row(t)
+        yield pass_row("sum", summed, t)
     yield "", None
     yield "# terms without rows", None
     for text in ["pass sum v0:8 v1:8", "pass sum v0:8 v1:4 bvadd", "pass sum bvadd", "pass sums v0:8", "at sum | v0:8"]:
@@ -292,21 +244,19 @@ def rows(chosen):
     yield "", None
     yield "# random terms", None
     for i in range(400):
-        make = [random_term, random_known, random_sum, random_sum][i % 4]
-        yield sum_row(make(chosen, chosen.choice(SORTS), chosen.randrange(1, 5)))
+        yield pass_row("sum", summed, made_of(chosen, i))
     yield "", None
     yield "# and with values", None
     for i in range(120):
-        make = [random_term, random_known, random_sum, random_sum][i % 4]
-        yield at_row(chosen, at_point(make(chosen, chosen.choice(SORTS), chosen.randrange(1, 5))))
+        yield at_row("sum", summed, chosen, at_point(made_of(chosen, i)))
 
 
 def main():
     if "--show" in sys.argv:
-        for text, _ in EXAMPLES:
-            print(f"{text}  ->  {show(summed(read(text)))}")
+        present(summed, EXAMPLES)
     elif "--check" in sys.argv:
-        check(random.Random(1000))
+        chosen = random.Random(1000)
+        check(summed, EXAMPLES, (at_point(made_of(chosen, i)) for i in range(2000)), chosen)
 
 
 if __name__ == "__main__":

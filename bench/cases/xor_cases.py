@@ -11,9 +11,9 @@ texts of its terms to the terms, in the order in which they came.
 import random
 import sys
 
+from pass_rows import at_row, check, pass_row, present, twice
 from rewrite_cases import SORTS, at_point, literal, random_known, random_term, show, sort_of, value_of
-from sum_cases import bits, place, twice
-from word_cases import evaluate
+from sum_cases import bits, place
 
 MOST = 64
 
@@ -108,26 +108,6 @@ def random_chain(chosen, sort, depth):
     return op, [a] if op == "bvnot" else [a, b]
 
 
-def check(chosen):
-    for text, made in EXAMPLES:
-        assert show(xored(read(text))) == made, (text, show(xored(read(text))))
-    count = same = stay = 0
-    for i in range(4000):
-        sort = chosen.choice(SORTS)
-        make = [random_term, random_known, random_chain, random_chain][i % 4]
-        t = at_point(make(chosen, sort, chosen.randrange(1, 6)))
-        made = xored(t)
-        assert sort_of(made) == sort_of(t), (t, made)
-        again = xored(made)
-        for _ in range(4):
-            words = [[(of, chosen.randrange(2 if of == "bool" else 2**of)) for of in SORTS for _ in range(2)] for _ in range(2)]
-            assert evaluate(t, *words) == evaluate(made, *words), (t, made)
-        count += 1
-        same += again == made
-        stay += made == t
-    print(f"{len(EXAMPLES)} examples, {count} terms keep their values, {same} stay in a second pass, {stay} in the first")
-
-
 def total(op, sort, k):
     """The first k + 1 variables of a sort, joined from the left."""
     return f"v0:{sort}" if k == 0 else f"{total(op, sort, k - 1)} v{k}:{sort} {op}"
@@ -185,33 +165,7 @@ EXAMPLES = [
 ]
 
 
-def read(text):
-    stack = []
-    for word in text.split():
-        arity = 0 if ":" in word else 1 if word in ["not", "bvneg", "bvnot"] else 3 if word == "ite" else 2
-        if arity:
-            args = stack[-arity:]
-            del stack[-arity:]
-            stack.append((word, args))
-        else:
-            stack.append(word)
-    return stack[0]
-
-
 # --- rows -------------------------------------------------------------------------------------------
-
-
-def xor_row(t):
-    return f"pass xor {show(t)}", show(xored(t))
-
-
-def at_row(chosen, t):
-    """The term that is made, and the value before and after, at words for two constants and variables of each sort."""
-    words = [[(of, chosen.randrange(2 if of == "bool" else 2**of)) for of in SORTS for _ in range(2)] for _ in range(2)]
-    sides = [" ".join(literal(of, v) for of, v in side) for side in words]
-    made = xored(t)
-    values = " ".join(literal(*evaluate(u, *words)) for u in [t, made])
-    return f"at xor {sides[0]} | {sides[1]} | {show(t)}", f"{show(made)} {values}"
 
 
 def made_of(chosen, i):
@@ -226,7 +180,7 @@ def rows(chosen):
     yield "", None
     yield "# shared terms, each joined with itself", None
     for op, t in [("bvxor", "v0:8"), ("bvxnor", "v0:8"), ("xor", "v0:bool"), ("=", "v0:bool"), ("bvand", "v0:8")]:
-        yield xor_row(twice(op, t, 9))
+        yield pass_row("xor", xored, twice(op, t, 9))
     yield "", None
     yield "# terms without rows", None
     for text in ["pass xor v0:8 v1:8", "pass xor v0:8 v1:4 bvxor", "pass xor v0:8 v1:8 xor", "pass xors v0:8", "at xor | v0:8"]:
@@ -234,19 +188,19 @@ def rows(chosen):
     yield "", None
     yield "# random terms", None
     for i in range(400):
-        yield xor_row(made_of(chosen, i))
+        yield pass_row("xor", xored, made_of(chosen, i))
     yield "", None
     yield "# and with values", None
     for i in range(120):
-        yield at_row(chosen, at_point(made_of(chosen, i)))
+        yield at_row("xor", xored, chosen, at_point(made_of(chosen, i)))
 
 
 def main():
     if "--show" in sys.argv:
-        for text, _ in EXAMPLES:
-            print(f"{text}  ->  {show(xored(read(text)))}")
+        present(xored, EXAMPLES)
     elif "--check" in sys.argv:
-        check(random.Random(1000))
+        chosen = random.Random(1000)
+        check(xored, EXAMPLES, (at_point(made_of(chosen, i)) for i in range(4000)), chosen)
 
 
 if __name__ == "__main__":
