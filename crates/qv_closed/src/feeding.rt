@@ -6,7 +6,7 @@ ghost use Rattle.qv_blast.specs.Blasters.{from_one};
 ghost use Rattle.qv_sat.specs.CoreState.{empty_core};
 ghost use Rattle.qv_closed.specs.Cores.{IsFed};
 
-use qv_cnf::ClauseList;
+use qv_cnf::{ClauseList, Lit};
 use qv_sat::Core;
 use std::alloc::{AllocError, Global};
 
@@ -30,6 +30,22 @@ pub(crate) fn core_of(alloc: Global, clauses: &ClauseList) -> Result<Given, Allo
     let mut core = Core::new(alloc);
     let next = add_all(&mut core, clauses)?;
     Ok(Given { core, next })
+}
+
+/// The same core, which looks in a long search whether these pairs of literals are equal.
+pub(crate) fn asked_core_of(
+    alloc: Global,
+    clauses: &ClauseList,
+    pairs: Vec<(Lit, Lit)>,
+) -> Result<Given, AllocError>
+    requires numbered { clauses.now ≡ from_one (clauses_of clauses.now.live) }
+    requires each { All (λ c. c ≢ []) (clauses_of clauses.now.live) }
+    ensures fed { IfOk result (λ given. IsFed given.core clauses.now.live) }
+    ensures next { IfOk result (λ given. given.next ≡ suc given.core.top) }
+{
+    let mut given = core_of(alloc, clauses)?;
+    given.core.suggest(pairs);
+    Ok(given)
 }
 
 // Adds them to a core that has none, and gives the id behind them.

@@ -11,9 +11,9 @@ ghost use Rattle.qv_blast.specs.Blasters.{from_one};
 ghost use Rattle.qv_meter.specs.Bases.{IsBaseOf};
 ghost use Rattle.qv_closed.specs.Cores.{IsAddedTo, IsFed, IsLaid};
 
-use crate::feeding::{MOST_IDS, core_of};
+use crate::feeding::{MOST_IDS, asked_core_of, core_of};
 use crate::ids::have_ids;
-use qv_cnf::{ClauseList, Step};
+use qv_cnf::{ClauseList, Lit, Step};
 use qv_sat::Core;
 use std::alloc::{AllocError, Global};
 
@@ -27,8 +27,14 @@ pub struct Laid {
 }
 
 /// A core that has these clauses, whose ids count from 1, and behind them those that the steps add.
-/// Where they can't be added there are no steps.
-pub fn laid_core(alloc: Global, clauses: &ClauseList, steps: Vec<Step>) -> Result<Laid, AllocError>
+/// Where they can't be added there are no steps. A long search looks whether the pairs of literals
+/// are equal.
+pub fn laid_core(
+    alloc: Global,
+    clauses: &ClauseList,
+    steps: Vec<Step>,
+    pairs: Vec<(Lit, Lit)>,
+) -> Result<Laid, AllocError>
     requires numbered { clauses.now ≡ from_one (clauses_of clauses.now.live) }
     requires each { All (λ c. c ≢ []) (clauses_of clauses.now.live) }
     requires adds { Adds (standing_at clauses.now.live) (lines_of steps.items) }
@@ -40,7 +46,7 @@ pub fn laid_core(alloc: Global, clauses: &ClauseList, steps: Vec<Step>) -> Resul
     ensures base { IfOk result (λ laid. (formulas : List Tree) →
         IsBaseOf clauses.now.live formulas → IsBaseOf laid.core.base formulas) }
 {
-    let mut given = core_of(alloc, clauses)?;
+    let mut given = asked_core_of(alloc, clauses, pairs)?;
     let first = given.next;
     if let Some(next) = lay(&mut given.core, first, &steps)? {
         return Ok(Laid {

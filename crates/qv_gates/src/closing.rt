@@ -27,6 +27,7 @@ pub struct Closure {
     // What is said to stand for each variable. It's looked at when it's asked for.
     faces: Vec<Option<Face>>,
     kept: Vec<u64>,
+    pairs: Vec<(Lit, Lit)>,
     // The ids of the base, the id behind them, and the variable behind those that it names.
     ids: Vec<u64>,
     first: u64,
@@ -51,6 +52,7 @@ struct Found {
     steps: Vec<Step>,
     faces: Vec<Option<Face>>,
     kept: Vec<u64>,
+    pairs: Vec<(Lit, Lit)>,
 }
 
 impl Closure {
@@ -67,6 +69,7 @@ impl Closure {
             steps: Vec::new(alloc),
             faces: Vec::new(alloc),
             kept: Vec::new(alloc),
+            pairs: Vec::new(alloc),
             ids: Vec::new(alloc),
             first: 0,
             variables: 0,
@@ -102,9 +105,15 @@ impl Closure {
     pub fn close(&mut self, rounds: u32) -> Result<(), AllocError>
         ensures { GoesOn self.old self.new }
     {
-        let Found { steps, faces, kept } = self.find(rounds)?;
+        let Found {
+            steps,
+            faces,
+            kept,
+            pairs,
+        } = self.find(rounds)?;
         self.faces = faces;
         self.kept = kept;
+        self.pairs = pairs;
         self.take_all(steps);
         Ok(())
     }
@@ -117,12 +126,13 @@ impl Closure {
         &self.steps
     }
 
-    /// The steps alone.
-    pub fn into_steps(self) -> Vec<Step>
-        ensures steps { lines_of result.items ≡ self.steps }
+    /// The steps, and pairs of literals that may be equal: they are where gates were simulated, in
+    /// the order of the gates. Nothing else is known of them.
+    pub fn finish(self) -> (Vec<Step>, Vec<(Lit, Lit)>)
+        ensures steps { lines_of result.0.items ≡ self.steps }
     {
-        let Closure { steps, .. } = self;
-        steps
+        let Closure { steps, pairs, .. } = self;
+        (steps, pairs)
     }
 
     /// Whether a step adds a clause without literals. Then the base has no model.
@@ -179,8 +189,14 @@ impl Closure {
     fn find(&self, rounds: u32) -> Result<Found, AllocError> {
         let mut search = Search::new(self.alloc, &self.base, self.first);
         let kept = search.run(&self.ids, self.variables, rounds)?;
+        let pairs = search.pairs(self.variables)?;
         let (steps, faces) = search.finish();
-        Ok(Found { steps, faces, kept })
+        Ok(Found {
+            steps,
+            faces,
+            kept,
+            pairs,
+        })
     }
 
     // Takes steps up to the first that the checker refuses.

@@ -4,6 +4,7 @@
 
 mod keeping;
 mod nodes;
+mod pairs;
 mod search;
 
 pub use search::Search;

@@ -8,6 +8,7 @@ ghost use Rattle.qv_sat.specs.Deciding.{IsWithin};
 ghost use Rattle.qv_watch.specs.Entries.{up_to, value_of};
 ghost use Rattle.qv_watch.specs.TrailState.{IsTrail};
 
+use super::questions::Questions;
 use super::solver::greatest;
 use qv_cnf::Lit;
 use qv_sat_order::Order;
@@ -27,6 +28,8 @@ pub(crate) struct Chooser {
     // of a design that was unrolled before the later ones. Then those up to `passed` have values.
     in_turn: bool,
     passed: u32,
+    // What is decided before all others.
+    pub(crate) questions: Questions,
 }
 
 impl Chooser {
@@ -39,6 +42,7 @@ impl Chooser {
             outputs: Vec::new(alloc),
             in_turn: false,
             passed: 0,
+            questions: Questions::new(alloc),
         }
     }
 
@@ -116,8 +120,15 @@ impl Chooser {
         is_new
     }
 
-    // The first variable without a value, with its last sign: the next one in turn, or the most active,
-    // which is then no longer held.
+    // Asks the next question where one is due. The answer is whether one was.
+    pub(crate) fn ask(&mut self, conflicts: u64) -> bool
+        ensures { self.new.order ≡ self.old.order }
+    {
+        self.questions.go_on(conflicts)
+    }
+
+    // What a question asks; or the first variable without a value, with its last sign: the next one in
+    // turn, or the most active, which is then no longer held.
     pub(crate) fn next(&mut self, trail: &Trail) -> Option<Lit>
         requires most { length self.old.order.held ≤ 2 ^ 30 }
         requires covers { Covers self.old.order.held trail.now.entries }
@@ -128,10 +139,8 @@ impl Chooser {
             CoversBut lit.variable self.new.order.held trail.now.entries) }
         ensures none { IfNone result (AllValued self.new.order.held trail.now.entries) }
     {
-        if self.in_turn {
-            if let Some(lit) = self.next_in_turn(trail) {
-                return Some(lit);
-            }
+        if let Some(lit) = self.next_asked(trail) {
+            return Some(lit);
         }
         while let Some(variable) = self.order.pop() {
             let lit = self.signed(variable);
@@ -140,6 +149,25 @@ impl Chooser {
             }
         }
         None
+    }
+
+    // The next literal of a question, or else the next one in turn, if that is how variables are
+    // decided now. It stays held.
+    fn next_asked(&mut self, trail: &Trail) -> Option<Lit>
+        requires { length self.old.order.held ≤ 2 ^ 30 }
+        ensures order { self.new.order ≡ self.old.order }
+        ensures within { IfSome result (IsWithin (length self.old.order.held)) }
+        ensures free { IfSome result (λ lit. value_of trail.now.entries lit ≡ None) }
+    {
+        let variables = self.order.variables();
+        if let Some(lit) = self.questions.next(trail, variables) {
+            return Some(lit);
+        }
+        if self.in_turn {
+            self.next_in_turn(trail)
+        } else {
+            None
+        }
     }
 
     // The least variable without a value behind those that have one, with its last sign. It stays held.

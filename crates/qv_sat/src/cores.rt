@@ -59,6 +59,14 @@ impl Core {
         self.solver.add(id, lits)
     }
 
+    /// Says of pairs of literals that each may be one literal. A long search looks whether they are,
+    /// which the answers don't show.
+    pub fn suggest(&mut self, pairs: Vec<(Lit, Lit)>)
+        ensures { self.new ≡ self.old }
+    {
+        self.solver.chooser.questions.suggest(pairs);
+    }
+
     /// Whether some values make every clause and every assumption true. Each clause that is learnt
     /// on the way is charged to the budget. After a fault the core may be asked again.
     pub fn solve<B: Budget>(

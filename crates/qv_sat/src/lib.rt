@@ -11,6 +11,7 @@ pub mod laws;
 mod levels;
 mod outcomes;
 mod places;
+mod questions;
 mod reduce;
 mod restarts;
 mod solver;

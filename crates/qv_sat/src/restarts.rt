@@ -109,7 +109,7 @@ fn average(old: u64, one: u64, window: u64) -> u64 {
 }
 
 // Goes back to the assumptions where a restart is due, or variables are decided in another way from
-// now on, and no clause is unit or false. The answer is whether none is.
+// now on, or another question is asked, and no clause is unit or false. The answer is whether none is.
 pub(crate) fn restart_if_due(
     restarts: &mut Restarts,
     trail: &mut Trail,
@@ -129,7 +129,8 @@ pub(crate) fn restart_if_due(
         return false;
     }
     let turned = chooser.turn(restarts.is_in_turn());
-    if turned || restarts.is_due(trail.order().len()) {
+    let asks = chooser.ask(restarts.conflicts);
+    if turned || asks || restarts.is_due(trail.order().len()) {
         restarts.begin();
         let level = assumed_level(trail, assumptions);
         back_to(trail, chooser, level);

@@ -103,7 +103,8 @@ impl Solver {
     {
         let conflicts = self.restarts.conflicts;
         let is_full = self.database.is_due(conflicts);
-        if !is_full && !self.restarts.is_due(self.trail.order().len()) {
+        let asks = self.chooser.questions.is_due(conflicts);
+        if !is_full && !asks && !self.restarts.is_due(self.trail.order().len()) {
             return Ok(());
         }
         let is_settled = restart_if_due(

@@ -142,11 +142,15 @@ fn refutation_of(
         return Ok(Refutation::Noted);
     }
     refutes_behind();
-    let Closed { steps, refuted } = close_list(alloc, clauses)?;
+    let Closed {
+        steps,
+        refuted,
+        pairs,
+    } = close_list(alloc, clauses)?;
     if refuted && have_ids(&steps) {
         return Ok(Refutation::Closed(steps));
     }
-    let mut laid = laid_list(alloc, clauses, steps)?;
+    let mut laid = laid_list(alloc, clauses, steps, pairs)?;
     conclude(&mut laid.core, meter)?;
     Ok(Refutation::Searched(laid))
 }
