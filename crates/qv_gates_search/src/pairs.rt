@@ -183,11 +183,11 @@ impl Search<'_> {
             firsts.insert(sum, variable)?;
             return Ok(());
         };
-        match (values.lit(first), values.lit(variable)) {
-            (Some(one), Some(other)) if self.nodes.of(variable).is_some() => {
-                pairs.push((one, other))
+        if self.nodes.of(variable).is_some() {
+            if let (Some(one), Some(other)) = (values.lit(first), values.lit(variable)) {
+                pairs.push((one, other))?;
             }
-            _ => Ok(()),
         }
+        Ok(())
     }
 }

@@ -13,6 +13,9 @@ const FIRST: u64 = 2_500;
 
 const MOST: u64 = 200;
 
+// Where so many more questions were left than answered, no others are asked.
+const LEFT: u32 = 20;
+
 // Pairs of literals, and the question of them that is asked now.
 #[derive(Drop)]
 pub(crate) struct Questions {
@@ -23,6 +26,8 @@ pub(crate) struct Questions {
     // At how many conflicts the question was begun, or nothing before the first one.
     begun: Option<u64>,
     is_answered: bool,
+    // How many more were left than answered.
+    left: u32,
 }
 
 impl Questions {
@@ -32,6 +37,7 @@ impl Questions {
             place: 0,
             begun: None,
             is_answered: false,
+            left: 0,
         }
     }
 
@@ -41,11 +47,12 @@ impl Questions {
         self.place = 0;
         self.begun = None;
         self.is_answered = false;
+        self.left = 0;
     }
 
     // Whether another question comes now.
     pub(crate) fn is_due(&self, conflicts: u64) -> bool {
-        if self.place / 2 >= self.pairs.len() {
+        if self.left > LEFT || self.place / 2 >= self.pairs.len() {
             return false;
         }
         match self.begun {
@@ -60,7 +67,12 @@ impl Questions {
             return false;
         }
         if self.begun.is_some() {
-            self.place += 1;
+            self.place = self.place.saturating_add(1);
+            self.left = if self.is_answered {
+                self.left.saturating_sub(1)
+            } else {
+                self.left.saturating_add(1)
+            };
         }
         self.begun = Some(conflicts);
         self.is_answered = false;
@@ -69,7 +81,7 @@ impl Questions {
 
     // The literals that the question says are true.
     fn asked(&self) -> Option<(Lit, Lit)> {
-        if self.begun.is_none() || self.is_answered {
+        if self.begun.is_none() || self.is_answered || self.left > LEFT {
             return None;
         }
         let (one, other) = self.pairs.get(self.place / 2).copied()?;
