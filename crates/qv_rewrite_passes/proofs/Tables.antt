@@ -73,7 +73,7 @@ or-past P w n low past h j r e = go (n == 0) (nat_le w n) refl refl e
     go false false is at f = cc
 
 -- the exponent of a power of two
-power-is : (w n k : ℕ) → power_in w n ≡ Some k → (k < w) × (n ≡ 2 ^ k)
+pub power-is : (w n k : ℕ) → power_in w n ≡ Some k → (k < w) × (n ≡ 2 ^ k)
 power-is zero n k e = cc
 power-is (suc w) n k e = go (power-is w n k) (n == 2 ^ w) refl e
   where
