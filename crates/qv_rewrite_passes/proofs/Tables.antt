@@ -3,8 +3,8 @@ use Rattle.std.proofs.Common.{◌≡◌, ℕ, zero, suc, ◌+◌, ◌-◌, ◌*�
 use Rattle.std.specs.Prelude.{ℤ, pos, negsuc, option_map, option_and_then, nat_lt, nat_le, int_lt, int_le, ◌&&◌, ◌||◌, bit_and, bit_or}
 use Rattle.std.specs.Int.Bits.{and_self, or_self, xor_self, xor_assoc, xor_zero_r}
 use Rattle.std.proofs.Math.Nat.{div-eq_of_lt, mod-eq_of_lt, mod-eq-sub-mod, mod_self, zero-div, zero-mod}
-use Rattle.std.proofs.lemmas.Nat.{pow_pos, xor_comm, and_comm, or_comm, and_mask, and_le_r, le_or_r, or_lt, or_disjoint, and-not}
-use Rattle.std.proofs.lemmas.Bool.{le-ltb, ltb-true, eqb-true, cases_eq, eq-eqb, ne_eqb}
+use Rattle.std.proofs.lemmas.Nat.{pow_pos, pow_below, xor_comm, and_comm, or_comm, and_mask, and_le_r, le_or_r, or_lt, or_disjoint, and-not}
+use Rattle.std.proofs.lemmas.Bool.{le-ltb, le-leb, lt-leb, leb-true, leb-false, ltb-true, eqb-true, cases_eq, cases_lt, eq-eqb, ne_eqb}
 use Rattle.std.proofs.lemmas.Bool.Decides.{nat_tests}
 use Rattle.qv_words.specs.declared.sort.Sort.{Sort}
 use Rattle.qv_words.specs.declared.sort.Sort.TheVariants.{Bool, Bits}
@@ -16,12 +16,13 @@ use Rattle.qv_words.specs.Rank.{result_sort, two_widths, two_bools, two_alike, o
 use Rattle.qv_words.specs.Op.{op_value, truth, remainder, shifted_left, shifted_right, shifted_signed, copies, turned}
 use Rattle.qv_words.proofs.InSort.{two_bools-parts, two_alike-parts, two_widths-parts}
 use Rattle.qv_words.proofs.InverseCases.{bits_same}
+use Rattle.qv_words.proofs.InverseRows.{below_pow}
 use Rattle.qv_words.proofs.InverseValues.{complement_twice}
 use Rattle.qv_words.proofs.Passing.{some-same}
-use Rattle.qv_words.proofs.TwosComplement.{halves}
+use Rattle.qv_words.proofs.TwosComplement.{halves, signed-negative, signed-other}
 use Rattle.qv_rewrite_passes.specs.declared.outcome.Outcome.{Outcome}
 use Rattle.qv_rewrite_passes.specs.declared.outcome.Outcome.TheVariants.{Argument, Complement, Number, Truth, Under}
-use Rattle.qv_rewrite_passes.specs.Simps.{greatest, where_is, by_either, by_first, by_second, of_twins, of_opposites, of_one}
+use Rattle.qv_rewrite_passes.specs.Simps.{greatest, where_is, power_in, at_powers, by_either, by_first, by_second, of_twins, of_opposites, of_one}
 use Rattle.qv_rewrite_passes.proofs.Linking.{xor_zero_l}
 use Rattle.qv_rewrite_passes.proofs.Chaining.{below-two, turned-all}
 
@@ -53,12 +54,15 @@ where-is P k n only h r e = go (n == k) refl e
     go true is f = one P only (h (eqb-true n k is)) r f
     go false is f = cc
 
-either-end : (P : Outcome → Type 0) (k n : ℕ) (low high : Outcome) → (n ≡ 0 → P low) → (n ≡ k → P high) → (r : Outcome) → cond (n == 0) (Some low) (where_is k n high) ≡ Some r → P r
-either-end P k n low high h j r e = go (n == 0) refl e
+either-of : (P : Outcome → Type 0) (j k n : ℕ) (low high : Outcome) → (n ≡ j → P low) → (n ≡ k → P high) → (r : Outcome) → cond (n == j) (Some low) (where_is k n high) ≡ Some r → P r
+either-of P j k n low high h m r e = go (n == j) refl e
   where
-    go : (b : Truth_value) → (n == 0) ≡ b → cond b (Some low) (where_is k n high) ≡ Some r → P r
-    go true is f = one P low (h (eqb-true n 0 is)) r f
-    go false is f = where-is P k n high j r f
+    go : (b : Truth_value) → (n == j) ≡ b → cond b (Some low) (where_is k n high) ≡ Some r → P r
+    go true is f = one P low (h (eqb-true n j is)) r f
+    go false is f = where-is P k n high m r f
+
+either-end : (P : Outcome → Type 0) (k n : ℕ) (low high : Outcome) → (n ≡ 0 → P low) → (n ≡ k → P high) → (r : Outcome) → cond (n == 0) (Some low) (where_is k n high) ≡ Some r → P r
+either-end P k n low high h j = either-of P 0 k n low high h j
 
 or-past : (P : Outcome → Type 0) (w n : ℕ) (low past : Outcome) → (n ≡ 0 → P low) → (nat_le w n ≡ true → P past) → (r : Outcome) → cond (n == 0) (Some low) (cond (nat_le w n) (Some past) None) ≡ Some r → P r
 or-past P w n low past h j r e = go (n == 0) (nat_le w n) refl refl e
@@ -67,6 +71,30 @@ or-past P w n low past h j r e = go (n == 0) (nat_le w n) refl refl e
     go true d is at f = one P low (h (eqb-true n 0 is)) r f
     go false true is at f = one P past (j at) r f
     go false false is at f = cc
+
+-- the exponent of a power of two
+pub power-is : (w n k : ℕ) → power_in w n ≡ Some k → (k < w) × (n ≡ 2 ^ k)
+power-is zero n k e = cc
+power-is (suc w) n k e = go (power-is w n k) (n == 2 ^ w) refl e
+  where
+    go : (power_in w n ≡ Some k → (k < w) × (n ≡ 2 ^ k)) → (b : Truth_value) → (n == 2 ^ w) ≡ b → cond b (Some w) (power_in w n) ≡ Some k → (k < suc w) × (n ≡ 2 ^ k)
+    go others true is f =
+        let same : w ≡ k = some-same w k f in
+        (omega (arith, same), eqb-true n (2 ^ w) is ∙ ap (λ j. 2 ^ j) same)
+    go others false is f =
+        let low : k < w = (others f).0 in
+        (omega (arith, low), (others f).1)
+
+at-powers : (P : Outcome → Type 0) (s : Sort) (n : ℕ) (low high : Outcome) (power : ℕ → Outcome) → (n ≡ 0 → P low) → (n ≡ 1 → P high) → ((k : ℕ) → k < width_of s → n ≡ 2 ^ k → P (power k)) → (r : Outcome) → at_powers s n low high power ≡ Some r → P r
+at-powers P s n low high power h j m r e = go (n == 0) refl (n == 1) refl (power_in (width_of s) n) refl e
+  where
+    go : (b : Truth_value) → (n == 0) ≡ b → (d : Truth_value) → (n == 1) ≡ d → (p : Option ℕ) → power_in (width_of s) n ≡ p → cond b (Some low) (cond d (Some high) (option_map power p)) ≡ Some r → P r
+    go true is d at p found f = one P low (h (eqb-true n 0 is)) r f
+    go false is true at p found f = one P high (j (eqb-true n 1 at)) r f
+    go false is false at None found f = cc
+    go false is false at (Some k) found f =
+        let parts = power-is (width_of s) n k found in
+        one P (power k) (m k parts.0 parts.1) r f
 
 -- ---- the sorts of an operator's arguments
 
@@ -223,6 +251,109 @@ rest-of-itself n = go (n == 0) refl
     go true is = eqb-true n 0 is
     go false is = mod_self n
 
+-- a quotient and a remainder by a power of two
+power-some : (k : ℕ) → (2 ^ k == 0) ≡ false
+power-some k = let some = pow_pos k in ne_eqb (2 ^ k) 0 (λ e. omega (arith, e, some))
+
+quotient-shifted : (w n k x : ℕ) → k < w → n ≡ 2 ^ k → cond (n == 0) (2 ^ w - 1) (x / n) ≡ shifted_right w x k
+quotient-shifted w n k x low e =
+    ap (λ y. cond (y == 0) (2 ^ w - 1) (x / y)) e ∙ ap (λ b. cond b (2 ^ w - 1) (x / 2 ^ k)) (power-some k)
+    ∙ sym (ap (λ b. cond b 0 (x / 2 ^ k)) (lt-leb w k low))
+
+rest-masked : (n k x : ℕ) → n ≡ 2 ^ k → remainder x n ≡ bit_and x (2 ^ k - 1)
+rest-masked n k x e = ap (remainder x) e ∙ ap (λ b. cond b x (x % 2 ^ k)) (power-some k) ∙ sym (and_mask x k)
+
+exponent-low : (w k : ℕ) → k < w → k < 2 ^ w
+exponent-low w k low = let small = below_pow w in omega (arith, low, small)
+
+mask-low : (w k : ℕ) → k < w → 2 ^ k - 1 < 2 ^ w
+mask-low w k low = let small : 2 ^ k < 2 ^ w = pow_below k w low in omega (arith, small)
+
+-- a shift by the width or more leaves the sign alone, as one by all bits but one does
+sign-only : (w x : ℕ) → 1 ≤ w → x < 2 ^ w → cond (is_negative w x) (2 ^ w - 1) 0 ≡ residue (floor_div (signed w x) (2 ^ (w - 1))) (2 ^ w)
+sign-only w x l f = go (is_negative w x) refl
+  where
+    go : (b : Truth_value) → is_negative w x ≡ b → cond b (2 ^ w - 1) 0 ≡ residue (floor_div (cond b (negsuc (2 ^ w - 1 - x)) (pos x)) (2 ^ (w - 1))) (2 ^ w)
+    go true is =
+        let twice = halves w l in
+        let high : 2 ^ (w - 1) ≤ x = leb-true (2 ^ (w - 1)) x is in
+        let low : 2 ^ w - 1 - x < 2 ^ (w - 1) = omega (arith, twice, high, f) in
+        sym (ap (λ m. 2 ^ w - 1 - m % 2 ^ w) (div-eq_of_lt low) ∙ ap (λ m. 2 ^ w - 1 - m) (zero-mod (2 ^ w)) ∙ above w)
+    go false is =
+        let low : x < 2 ^ (w - 1) = leb-false (2 ^ (w - 1)) x is in
+        sym (ap (λ m. m % 2 ^ w) (div-eq_of_lt low) ∙ zero-mod (2 ^ w))
+
+signed-past : (w x n : ℕ) → 1 ≤ w → x < 2 ^ w → nat_le w n ≡ true → shifted_signed w x n ≡ shifted_signed w x (w - 1)
+signed-past w x n l f past =
+    ap (λ b. cond b (cond (is_negative w x) (2 ^ w - 1) 0) (residue (floor_div (signed w x) (2 ^ n)) (2 ^ w))) past
+    ∙ sign-only w x l f
+    ∙ sym (ap (λ b. cond b (cond (is_negative w x) (2 ^ w - 1) 0) (residue (floor_div (signed w x) (2 ^ (w - 1))) (2 ^ w))) (lt-leb w (w - 1) (let less : w - 1 < w = omega (arith, l) in less)))
+
+-- signed numbers, and their least and greatest
+by-sign : (P : ℤ → Type 0) (w x : ℕ) → (x < 2 ^ (w - 1) → P (pos x)) → (2 ^ (w - 1) ≤ x → P (negsuc (2 ^ w - 1 - x))) → P (signed w x)
+by-sign P w x h k = elim (cases_lt x (2 ^ (w - 1))) [
+  | inl low ↦ subst P (sym (signed-other w x (lt-leb (2 ^ (w - 1)) x low))) (h low)
+  | inr high ↦ subst P (sym (signed-negative w x (le-leb (2 ^ (w - 1)) x high))) (k high)
+]
+
+signed-least : (w : ℕ) → 1 ≤ w → signed w (2 ^ (w - 1)) ≡ negsuc (2 ^ (w - 1) - 1)
+signed-least w l =
+    let twice = halves w l in
+    signed-negative w (2 ^ (w - 1)) (at-most (2 ^ (w - 1)) (2 ^ (w - 1)) (let h : 2 ^ (w - 1) ≤ 2 ^ (w - 1) = omega arith in h))
+    ∙ ap negsuc (let flat : 2 ^ w - 1 - 2 ^ (w - 1) ≡ 2 ^ (w - 1) - 1 = omega (arith, twice) in flat)
+
+signed-greatest : (w : ℕ) → signed w (2 ^ (w - 1) - 1) ≡ pos (2 ^ (w - 1) - 1)
+signed-greatest w = signed-other w (2 ^ (w - 1) - 1) (lt-leb (2 ^ (w - 1)) (2 ^ (w - 1) - 1) (last (w - 1)))
+
+none-below : (w x : ℕ) → 1 ≤ w → x < 2 ^ w → int_lt (signed w x) (signed w (2 ^ (w - 1))) ≡ false
+none-below w x l f =
+    let twice = halves w l in
+    ap (int_lt (signed w x)) (signed-least w l)
+    ∙ by-sign (λ z. int_lt z (negsuc (2 ^ (w - 1) - 1)) ≡ false) w x (λ low. refl)
+    (λ high. not-above (2 ^ w - 1 - x) (2 ^ (w - 1) - 1) (omega (arith, twice, high)))
+
+least-below : (w x : ℕ) → 1 ≤ w → x < 2 ^ w → int_le (signed w (2 ^ (w - 1))) (signed w x) ≡ true
+least-below w x l f =
+    let twice = halves w l in
+    ap (λ z. int_le z (signed w x)) (signed-least w l)
+    ∙ by-sign (λ z. int_le (negsuc (2 ^ (w - 1) - 1)) z ≡ true) w x (λ low. refl)
+    (λ high. at-most (2 ^ w - 1 - x) (2 ^ (w - 1) - 1) (omega (arith, twice, high)))
+
+only-least : (w x : ℕ) → 1 ≤ w → x < 2 ^ w → int_le (signed w x) (signed w (2 ^ (w - 1))) ≡ (x == 2 ^ (w - 1))
+only-least w x l f =
+    let twice = halves w l in
+    let some = pow_pos (w - 1) in
+    ap (int_le (signed w x)) (signed-least w l)
+    ∙ by-sign (λ z. int_le z (negsuc (2 ^ (w - 1) - 1)) ≡ (x == 2 ^ (w - 1))) w x
+    (λ low. sym (ne_eqb x (2 ^ (w - 1)) (λ e. omega (arith, e, low))))
+    (λ high. same-test (2 ^ (w - 1) - 1) (2 ^ w - 1 - x) x (2 ^ (w - 1)) (λ e. omega (arith, e, twice)) (λ h. omega (arith, h, twice, high, f, some)))
+  where
+    same-test : (a b c d : ℕ) → (c ≡ d → a ≤ b) → (a ≤ b → c ≡ d) → nat_le a b ≡ (c == d)
+    same-test a b c d g h = elim (cases_lt b a) [
+      | inl less ↦ lt-leb a b less ∙ sym (ne_eqb c d (λ e. let k = g e in omega (arith, k, less)))
+      | inr most ↦ le-leb a b most ∙ sym (eq-eqb c d (h most))
+    ]
+
+none-above : (w x : ℕ) → 1 ≤ w → x < 2 ^ w → int_lt (signed w (2 ^ (w - 1) - 1)) (signed w x) ≡ false
+none-above w x l f =
+    ap (λ z. int_lt z (signed w x)) (signed-greatest w)
+    ∙ by-sign (λ z. int_lt (pos (2 ^ (w - 1) - 1)) z ≡ false) w x
+    (λ low. not-above x (2 ^ (w - 1) - 1) (below-top (w - 1) x low)) (λ high. refl)
+
+greatest-above : (w x : ℕ) → 1 ≤ w → x < 2 ^ w → int_le (signed w x) (signed w (2 ^ (w - 1) - 1)) ≡ true
+greatest-above w x l f =
+    ap (int_le (signed w x)) (signed-greatest w)
+    ∙ by-sign (λ z. int_le z (pos (2 ^ (w - 1) - 1)) ≡ true) w x
+    (λ low. at-most x (2 ^ (w - 1) - 1) (below-top (w - 1) x low)) (λ high. refl)
+
+only-greatest : (w x : ℕ) → 1 ≤ w → x < 2 ^ w → int_le (signed w (2 ^ (w - 1) - 1)) (signed w x) ≡ (x == 2 ^ (w - 1) - 1)
+only-greatest w x l f =
+    let some = pow_pos (w - 1) in
+    ap (λ z. int_le z (signed w x)) (signed-greatest w)
+    ∙ by-sign (λ z. int_le (pos (2 ^ (w - 1) - 1)) z ≡ (x == 2 ^ (w - 1) - 1)) w x
+    (λ low. at-least x (2 ^ (w - 1) - 1) (below-top (w - 1) x low))
+    (λ high. sym (ne_eqb x (2 ^ (w - 1) - 1) (λ e. omega (arith, e, high, some))))
+
 -- ---- the tables
 
 -- an operator's application to x and n, and to n and x
@@ -350,11 +481,31 @@ either-first _ t s q h = λ l n i r e. cc
 same-width : (w : ℕ) → result_sort Equal (Bits w ∷ Bits w ∷ []) ≡ Some Bool
 same-width w = rw (let same : (w == w) ≡ true = eq-eqb w w refl in same) refl
 
+under-equal : (w m : ℕ) (f : ℕ → ℕ) → m < 2 ^ w → ((x : ℕ) → x < 2 ^ w → f x ≡ truth (x == m)) → Fits (Bits w) Bool f (Under Equal m)
+under-equal w m f low h = (same-width w, low, h)
+
 under-least : (w : ℕ) (f : ℕ → ℕ) → ((x : ℕ) → f x ≡ truth (x == 0)) → Fits (Bits w) Bool f (Under Equal 0)
-under-least w f h = (same-width w, pow_pos w, λ x i. h x)
+under-least w f h = under-equal w 0 f (pow_pos w) (λ x i. h x)
 
 under-most : (w : ℕ) (f : ℕ → ℕ) → ((x : ℕ) → x < 2 ^ w → f x ≡ truth (x == 2 ^ w - 1)) → Fits (Bits w) Bool f (Under Equal (2 ^ w - 1))
-under-most w f h = (same-width w, last w, h)
+under-most w f h = under-equal w (2 ^ w - 1) f (last w) h
+
+-- two words of one width
+same-word : (w : ℕ) → option_map Bits (two_widths (Bits w ∷ Bits w ∷ [])) ≡ Some (Bits w)
+same-word w = rw (let same : (w == w) ≡ true = eq-eqb w w refl in same) refl
+
+half-low : (w : ℕ) → 1 ≤ w → 2 ^ (w - 1) < 2 ^ w
+half-low w l = let twice = halves w l in let some = pow_pos (w - 1) in omega (arith, twice, some)
+
+less-low : (w : ℕ) → 1 ≤ w → 2 ^ (w - 1) - 1 < 2 ^ w
+less-low w l = let half = half-low w l in omega (arith, half)
+
+-- signed comparisons with the least and the greatest, on either side
+under-signed : (w m : ℕ) (f : ℕ → ℕ → Truth_value) (n : ℕ) → m < 2 ^ w → n ≡ m → ((x : ℕ) → x < 2 ^ w → f x m ≡ (x == m)) → Fits (Bits w) Bool (λ x. truth (f x n)) (Under Equal m)
+under-signed w m f n low e h = under-equal w m (λ x. truth (f x n)) low (λ x i. ap (λ y. truth (f x y)) e ∙ ap truth (h x i))
+
+truth-signed : (w m : ℕ) (f : ℕ → ℕ → Truth_value) (b : Truth_value) (n : ℕ) → n ≡ m → ((x : ℕ) → x < 2 ^ w → f x m ≡ b) → Fits (Bits w) Bool (λ x. truth (f x n)) (Truth b)
+truth-signed w m f b n e h = (refl, λ x i. ap (λ y. truth (f x y)) e ∙ ap truth (h x i))
 
 pub second-fits : (o : Op) (s t q : Sort) → result_sort o (s ∷ t ∷ []) ≡ Some q → Seconds o by_second s t q
 second-fits Implies s t q h = on-bools (Seconds Implies by_second) (λ l n i. either-end (Fits Bool Bool (λ x. truth (x == 0 || n == 1))) 1 n Complement (Number 1)
@@ -362,20 +513,23 @@ second-fits Implies s t q h = on-bools (Seconds Implies by_second) (λ l n i. ei
     (λ e. (refl, lit< tt, λ x f. ap (λ y. truth (x == 0 || y == 1)) e ∙ below-two (λ a. truth (a == 0 || true) ≡ 1) x f refl refl))) s t q h
 second-fits BvSub s t q h = on-wide (Seconds BvSub by_second) (λ w l n i. where-is (Fits (Bits w) (Bits w) (λ x. (x + 2 ^ w - n) % 2 ^ w)) 0 n Argument
     (λ e. (refl, λ x f. ap (λ y. (x + 2 ^ w - y) % 2 ^ w) e ∙ whole-more w x f))) s t q h
-second-fits BvUdiv s t q h = on-wide (Seconds BvUdiv by_second) (λ w l n i. either-end (Fits (Bits w) (Bits w) (λ x. cond (n == 0) (2 ^ w - 1) (x / n))) 1 n (Number (2 ^ w - 1)) Argument
+second-fits BvUdiv s t q h = on-wide (Seconds BvUdiv by_second) (λ w l n i. at-powers (Fits (Bits w) (Bits w) (λ x. cond (n == 0) (2 ^ w - 1) (x / n))) (Bits w) n (Number (2 ^ w - 1)) Argument (Under BvLshr)
     (λ e. (refl, last w, λ x f. ap (λ y. cond (y == 0) (2 ^ w - 1) (x / y)) e))
-    (λ e. (refl, λ x f. ap (λ y. cond (y == 0) (2 ^ w - 1) (x / y)) e ∙ div-one x))) s t q h
-second-fits BvUrem s t q h = on-wide (Seconds BvUrem by_second) (λ w l n i. either-end (Fits (Bits w) (Bits w) (λ x. remainder x n)) 1 n Argument (Number 0)
+    (λ e. (refl, λ x f. ap (λ y. cond (y == 0) (2 ^ w - 1) (x / y)) e ∙ div-one x))
+    (λ k low e. (same-word w, exponent-low w k low, λ x f. quotient-shifted w n k x low e))) s t q h
+second-fits BvUrem s t q h = on-wide (Seconds BvUrem by_second) (λ w l n i. at-powers (Fits (Bits w) (Bits w) (λ x. remainder x n)) (Bits w) n Argument (Number 0) (λ k. Under BvAnd (2 ^ k - 1))
     (λ e. (refl, λ x f. ap (remainder x) e))
-    (λ e. (refl, pow_pos w, λ x f. ap (remainder x) e ∙ none-left x))) s t q h
+    (λ e. (refl, pow_pos w, λ x f. ap (remainder x) e ∙ none-left x))
+    (λ k low e. (same-word w, mask-low w k low, λ x f. rest-masked n k x e))) s t q h
 second-fits BvShl s t q h = on-wide (Seconds BvShl by_second) (λ w l n i. or-past (Fits (Bits w) (Bits w) (λ x. shifted_left w x n)) w n Argument (Number 0)
     (λ e. (refl, λ x f. ap (shifted_left w x) e ∙ left-by-none w x l.0 f))
     (λ e. (refl, pow_pos w, λ x f. ap (λ b. cond b 0 (x * 2 ^ n % 2 ^ w)) e))) s t q h
 second-fits BvLshr s t q h = on-wide (Seconds BvLshr by_second) (λ w l n i. or-past (Fits (Bits w) (Bits w) (λ x. shifted_right w x n)) w n Argument (Number 0)
     (λ e. (refl, λ x f. ap (shifted_right w x) e ∙ right-by-none w x l.0))
     (λ e. (refl, pow_pos w, λ x f. ap (λ b. cond b 0 (x / 2 ^ n)) e))) s t q h
-second-fits BvAshr s t q h = on-wide (Seconds BvAshr by_second) (λ w l n i. where-is (Fits (Bits w) (Bits w) (λ x. shifted_signed w x n)) 0 n Argument
-    (λ e. (refl, λ x f. ap (shifted_signed w x) e ∙ signed-by-none w x l.0 f))) s t q h
+second-fits BvAshr s t q h = on-wide (Seconds BvAshr by_second) (λ w l n i. or-past (Fits (Bits w) (Bits w) (λ x. shifted_signed w x n)) w n Argument (Under BvAshr (w - 1))
+    (λ e. (refl, λ x f. ap (shifted_signed w x) e ∙ signed-by-none w x l.0 f))
+    (λ e. (same-word w, exponent-low w (w - 1) (let less : w - 1 < w = omega (arith, l.0) in less), λ x f. signed-past w x n l.0 f e))) s t q h
 second-fits BvUlt s t q h = on-compared (Seconds BvUlt by_second) (λ w l n i. either-end (Fits (Bits w) Bool (λ x. truth (nat_lt x n))) 1 n (Truth false) (Under Equal 0)
     (λ e. (refl, λ x f. ap (λ y. truth (nat_lt x y)) e ∙ ap truth (lt-none x)))
     (λ e. under-least w (λ x. truth (nat_lt x n)) (λ x. ap (λ y. truth (nat_lt x y)) e ∙ ap truth (lt-one x)))) s t q h
@@ -387,6 +541,16 @@ second-fits BvUgt s t q h = on-compared (Seconds BvUgt by_second) (λ w l n i. w
 second-fits BvUge s t q h = on-compared (Seconds BvUge by_second) (λ w l n i. either-end (Fits (Bits w) Bool (λ x. truth (nat_le n x))) (2 ^ w - 1) n (Truth true) (Under Equal (2 ^ w - 1))
     (λ e. (refl, λ x f. ap (λ y. truth (nat_le y x)) e ∙ ap truth (at-most 0 x (let low : 0 ≤ x = omega arith in low))))
     (λ e. under-most w (λ x. truth (nat_le n x)) (λ x f. ap (λ y. truth (nat_le y x)) e ∙ ap truth (at-least x (2 ^ w - 1) (below-top w x f))))) s t q h
+second-fits BvSlt s t q h = on-compared (Seconds BvSlt by_second) (λ w l n i. where-is (Fits (Bits w) Bool (λ x. truth (int_lt (signed w x) (signed w n)))) (2 ^ (w - 1)) n (Truth false)
+    (λ e. truth-signed w (2 ^ (w - 1)) (λ x y. int_lt (signed w x) (signed w y)) false n e (λ x f. none-below w x l.0 f))) s t q h
+second-fits BvSle s t q h = on-compared (Seconds BvSle by_second) (λ w l n i. either-of (Fits (Bits w) Bool (λ x. truth (int_le (signed w x) (signed w n)))) (2 ^ (w - 1)) (2 ^ (w - 1) - 1) n (Under Equal (2 ^ (w - 1))) (Truth true)
+    (λ e. under-signed w (2 ^ (w - 1)) (λ x y. int_le (signed w x) (signed w y)) n (half-low w l.0) e (λ x f. only-least w x l.0 f))
+    (λ e. truth-signed w (2 ^ (w - 1) - 1) (λ x y. int_le (signed w x) (signed w y)) true n e (λ x f. greatest-above w x l.0 f))) s t q h
+second-fits BvSgt s t q h = on-compared (Seconds BvSgt by_second) (λ w l n i. where-is (Fits (Bits w) Bool (λ x. truth (int_lt (signed w n) (signed w x)))) (2 ^ (w - 1) - 1) n (Truth false)
+    (λ e. truth-signed w (2 ^ (w - 1) - 1) (λ x y. int_lt (signed w y) (signed w x)) false n e (λ x f. none-above w x l.0 f))) s t q h
+second-fits BvSge s t q h = on-compared (Seconds BvSge by_second) (λ w l n i. either-of (Fits (Bits w) Bool (λ x. truth (int_le (signed w n) (signed w x)))) (2 ^ (w - 1)) (2 ^ (w - 1) - 1) n (Truth true) (Under Equal (2 ^ (w - 1) - 1))
+    (λ e. truth-signed w (2 ^ (w - 1)) (λ x y. int_le (signed w y) (signed w x)) true n e (λ x f. least-below w x l.0 f))
+    (λ e. under-signed w (2 ^ (w - 1) - 1) (λ x y. int_le (signed w y) (signed w x)) n (less-low w l.0) e (λ x f. only-greatest w x l.0 f))) s t q h
 second-fits o s t q h = either-second o s t q h
 
 pub first-fits : (o : Op) (t s q : Sort) → result_sort o (t ∷ s ∷ []) ≡ Some q → Firsts o by_first t s q
@@ -410,6 +574,16 @@ first-fits BvUgt t s q h = on-compared (Firsts BvUgt by_first) (λ w l n i. eith
 first-fits BvUge t s q h = on-compared (Firsts BvUge by_first) (λ w l n i. either-end (Fits (Bits w) Bool (λ x. truth (nat_le x n))) (2 ^ w - 1) n (Under Equal 0) (Truth true)
     (λ e. under-least w (λ x. truth (nat_le x n)) (λ x. ap (λ y. truth (nat_le x y)) e ∙ ap truth (le-none x)))
     (λ e. (refl, λ x f. ap (λ y. truth (nat_le x y)) e ∙ ap truth (at-most x (2 ^ w - 1) (below-top w x f))))) t s q h
+first-fits BvSlt t s q h = on-compared (Firsts BvSlt by_first) (λ w l n i. where-is (Fits (Bits w) Bool (λ x. truth (int_lt (signed w n) (signed w x)))) (2 ^ (w - 1) - 1) n (Truth false)
+    (λ e. truth-signed w (2 ^ (w - 1) - 1) (λ x y. int_lt (signed w y) (signed w x)) false n e (λ x f. none-above w x l.0 f))) t s q h
+first-fits BvSle t s q h = on-compared (Firsts BvSle by_first) (λ w l n i. either-of (Fits (Bits w) Bool (λ x. truth (int_le (signed w n) (signed w x)))) (2 ^ (w - 1)) (2 ^ (w - 1) - 1) n (Truth true) (Under Equal (2 ^ (w - 1) - 1))
+    (λ e. truth-signed w (2 ^ (w - 1)) (λ x y. int_le (signed w y) (signed w x)) true n e (λ x f. least-below w x l.0 f))
+    (λ e. under-signed w (2 ^ (w - 1) - 1) (λ x y. int_le (signed w y) (signed w x)) n (less-low w l.0) e (λ x f. only-greatest w x l.0 f))) t s q h
+first-fits BvSgt t s q h = on-compared (Firsts BvSgt by_first) (λ w l n i. where-is (Fits (Bits w) Bool (λ x. truth (int_lt (signed w x) (signed w n)))) (2 ^ (w - 1)) n (Truth false)
+    (λ e. truth-signed w (2 ^ (w - 1)) (λ x y. int_lt (signed w x) (signed w y)) false n e (λ x f. none-below w x l.0 f))) t s q h
+first-fits BvSge t s q h = on-compared (Firsts BvSge by_first) (λ w l n i. either-of (Fits (Bits w) Bool (λ x. truth (int_le (signed w x) (signed w n)))) (2 ^ (w - 1)) (2 ^ (w - 1) - 1) n (Under Equal (2 ^ (w - 1))) (Truth true)
+    (λ e. under-signed w (2 ^ (w - 1)) (λ x y. int_le (signed w x) (signed w y)) n (half-low w l.0) e (λ x f. only-least w x l.0 f))
+    (λ e. truth-signed w (2 ^ (w - 1) - 1) (λ x y. int_le (signed w x) (signed w y)) true n e (λ x f. greatest-above w x l.0 f))) t s q h
 first-fits o t s q h = either-first o t s q h
 
 -- ---- an argument and itself

@@ -1,5 +1,5 @@
 -- Small rules, and the pass that makes them from the leaves up.
-use Rattle.std.specs.Prelude.{ℕ, ◌-◌, ◌^◌, ◌%◌, ◌==◌, nat_le, Bool, true, false, ◌&&◌, ◌||◌, if◌then◌else◌, Option, Some, None, unwrap_or, option_map, option_and_then, List, map}
+use Rattle.std.specs.Prelude.{ℕ, zero, suc, ◌-◌, ◌^◌, ◌%◌, ◌==◌, nat_le, Bool, true, false, ◌&&◌, ◌||◌, if◌then◌else◌, Option, Some, None, unwrap_or, option_map, option_and_then, List, map}
 use Rattle.std.specs.Option.{option_or}
 use Rattle.qv_words.specs.declared.sort.Sort.{Sort}
 use Rattle.qv_words.specs.declared.sort.Sort.TheVariants.{Bits}
@@ -42,6 +42,30 @@ where_is k n r = if n == k then Some r else None
 abbrev pub at_ends : Sort → ℕ → (low high : Outcome) → Option Outcome
 at_ends s n low high = if n == 0 then Some low else where_is (greatest s) n high
 
+-- the least and the greatest value as a signed number, and an outcome where n is either
+abbrev pub least_signed : Sort → ℕ
+least_signed s = 2 ^ (width_of s - 1)
+
+abbrev pub greatest_signed : Sort → ℕ
+greatest_signed s = 2 ^ (width_of s - 1) - 1
+
+abbrev pub at_signed_ends : Sort → ℕ → (low high : Outcome) → Option Outcome
+at_signed_ends s n low high = if n == least_signed s then Some low else where_is (greatest_signed s) n high
+
+-- one outcome where n is 0, and another where it is the width or more
+abbrev pub by_shift : Sort → ℕ → (none past : Outcome) → Option Outcome
+by_shift s n none past = if n == 0 then Some none else (if nat_le (width_of s) n then Some past else None)
+
+-- the k below w of which n is the power of two
+abbrev pub power_in : (w n : ℕ) → Option ℕ
+power_in zero n = None
+power_in (suc k) n = if n == 2 ^ k then Some k else power_in k n
+
+-- one outcome where n is 0, one where it is 1, and one where it is another power of two
+abbrev pub at_powers : Sort → ℕ → (none one : Outcome) → (power : ℕ → Outcome) → Option Outcome
+at_powers s n none one power =
+    if n == 0 then Some none else (if n == 1 then Some one else option_map power (power_in (width_of s) n))
+
 -- where either argument is the number n
 abbrev pub by_either : Op → Sort → (n : ℕ) → Option Outcome
 by_either And s n = at_ends s n (Number 0) Argument
@@ -68,21 +92,29 @@ by_first BvUlt s n = where_is (greatest s) n (Truth false)
 by_first BvUle s n = at_ends s n (Truth true) (Under Equal (greatest s))
 by_first BvUgt s n = if n == 0 then Some (Truth false) else where_is 1 n (Under Equal 0)
 by_first BvUge s n = at_ends s n (Under Equal 0) (Truth true)
+by_first BvSlt s n = where_is (greatest_signed s) n (Truth false)
+by_first BvSle s n = at_signed_ends s n (Truth true) (Under Equal (greatest_signed s))
+by_first BvSgt s n = where_is (least_signed s) n (Truth false)
+by_first BvSge s n = at_signed_ends s n (Under Equal (least_signed s)) (Truth true)
 by_first o s n = by_either o s n
 
 -- where the second is
 abbrev pub by_second : Op → Sort → (n : ℕ) → Option Outcome
 by_second Implies s n = at_ends s n Complement (Number 1)
 by_second BvSub s n = where_is 0 n Argument
-by_second BvUdiv s n = if n == 0 then Some (Number (greatest s)) else where_is 1 n Argument
-by_second BvUrem s n = if n == 0 then Some Argument else where_is 1 n (Number 0)
-by_second BvShl s n = if n == 0 then Some Argument else (if nat_le (width_of s) n then Some (Number 0) else None)
-by_second BvLshr s n = if n == 0 then Some Argument else (if nat_le (width_of s) n then Some (Number 0) else None)
-by_second BvAshr s n = where_is 0 n Argument
+by_second BvUdiv s n = at_powers s n (Number (greatest s)) Argument (Under BvLshr)
+by_second BvUrem s n = at_powers s n Argument (Number 0) (λ k. Under BvAnd (2 ^ k - 1))
+by_second BvShl s n = by_shift s n Argument (Number 0)
+by_second BvLshr s n = by_shift s n Argument (Number 0)
+by_second BvAshr s n = by_shift s n Argument (Under BvAshr (width_of s - 1))
 by_second BvUlt s n = if n == 0 then Some (Truth false) else where_is 1 n (Under Equal 0)
 by_second BvUle s n = at_ends s n (Under Equal 0) (Truth true)
 by_second BvUgt s n = where_is (greatest s) n (Truth false)
 by_second BvUge s n = at_ends s n (Truth true) (Under Equal (greatest s))
+by_second BvSlt s n = where_is (least_signed s) n (Truth false)
+by_second BvSle s n = at_signed_ends s n (Under Equal (least_signed s)) (Truth true)
+by_second BvSgt s n = where_is (greatest_signed s) n (Truth false)
+by_second BvSge s n = at_signed_ends s n (Truth true) (Under Equal (greatest_signed s))
 by_second o s n = by_either o s n
 
 -- where both arguments are one

@@ -1,3 +1,4 @@
+pub mod Powering
 pub mod Fitting
 pub mod Found
 pub mod Applying

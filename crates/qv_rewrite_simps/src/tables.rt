@@ -1,9 +1,12 @@
 //! The tables of small rules: what an operator makes of its other argument, of this sort.
 
-ghost use Rattle.std.specs.Prelude.{◌≡◌, ◌-◌, ◌==◌, nat_le, if◌then◌else◌, Some, None};
+ghost use Rattle.std.specs.Prelude.{◌≡◌, ◌-◌, ◌==◌, true, if◌then◌else◌, Some, None};
 ghost use Rattle.qv_words.specs.Sort.{IsLawful, width_of};
-ghost use Rattle.qv_rewrite_passes.specs.declared.outcome.Outcome.TheVariants.{Argument, Number};
+ghost use Rattle.qv_words.specs.declared.op.Op.TheVariants.{Equal, BvUdiv, BvUrem};
+ghost use Rattle.qv_rewrite_passes.specs.declared.outcome.Outcome.TheVariants.{Argument, Truth, Under};
 ghost use Rattle.qv_rewrite_passes.specs.Simps.{greatest, where_is, at_ends};
+ghost use Rattle.qv_rewrite_passes.specs.Simps.{least_signed, greatest_signed, at_signed_ends};
+ghost use Rattle.qv_rewrite_passes.specs.Simps.{by_shift, power_in};
 ghost use Rattle.qv_rewrite_passes.specs.Simps.{by_either, by_first, by_second};
 ghost use Rattle.qv_rewrite_passes.specs.Simps.{of_twins, of_opposites, of_one};
 
@@ -34,6 +37,34 @@ fn at_ends(sort: Sort, n: u128, low: Outcome, high: Outcome) -> Option<Outcome>
         Some(low)
     } else {
         where_is(greatest(sort), n, high)
+    }
+}
+
+// The least value as a signed number.
+fn least_signed(sort: Sort) -> u128
+    requires { IsLawful sort }
+    ensures { result ≡ least_signed sort }
+{
+    1 << (sort.width() - 1)
+}
+
+// The greatest one.
+fn greatest_signed(sort: Sort) -> u128
+    requires { IsLawful sort }
+    ensures { result ≡ greatest_signed sort }
+{
+    least_signed(sort) - 1
+}
+
+// One outcome where n is the least, and another where it is the greatest.
+fn at_signed_ends(sort: Sort, n: u128, low: Outcome, high: Outcome) -> Option<Outcome>
+    requires { IsLawful sort }
+    ensures { result ≡ at_signed_ends sort n low high }
+{
+    if n == least_signed(sort) {
+        Some(low)
+    } else {
+        where_is(greatest_signed(sort), n, high)
     }
 }
 
@@ -93,8 +124,30 @@ pub(crate) fn by_first(op: Op, sort: Sort, n: u128) -> Option<Outcome>
         }
         Op::BvUgt => at_least_two(n, Outcome::Truth(false), Outcome::Under(Op::Equal, 0)),
         Op::BvUge => at_ends(sort, n, Outcome::Under(Op::Equal, 0), Outcome::Truth(true)),
+        Op::BvSlt => where_is(greatest_signed(sort), n, Outcome::Truth(false)),
+        Op::BvSle => at_least(sort, n),
+        Op::BvSgt => where_is(least_signed(sort), n, Outcome::Truth(false)),
+        Op::BvSge => at_most(sort, n),
         _ => by_either(op, sort, n),
     }
+}
+
+// Whether it is at least n, as a signed number.
+fn at_least(sort: Sort, n: u128) -> Option<Outcome>
+    requires { IsLawful sort }
+    ensures { result ≡ at_signed_ends sort n (Truth true) (Under Equal (greatest_signed sort)) }
+{
+    let most = Outcome::Under(Op::Equal, greatest_signed(sort));
+    at_signed_ends(sort, n, Outcome::Truth(true), most)
+}
+
+// Whether it is at most n.
+fn at_most(sort: Sort, n: u128) -> Option<Outcome>
+    requires { IsLawful sort }
+    ensures { result ≡ at_signed_ends sort n (Under Equal (least_signed sort)) (Truth true) }
+{
+    let least = Outcome::Under(Op::Equal, least_signed(sort));
+    at_signed_ends(sort, n, least, Outcome::Truth(true))
 }
 
 // Where the second is.
@@ -104,10 +157,14 @@ pub(crate) fn by_second(op: Op, sort: Sort, n: u128) -> Option<Outcome>
 {
     match op {
         Op::Implies => at_ends(sort, n, Outcome::Complement, Outcome::Number(1)),
-        Op::BvSub | Op::BvAshr => where_is(0, n, Outcome::Argument),
-        Op::BvUdiv => at_least_two(n, Outcome::Number(greatest(sort)), Outcome::Argument),
-        Op::BvUrem => at_least_two(n, Outcome::Argument, Outcome::Number(0)),
-        Op::BvShl | Op::BvLshr => shifted_by(sort, n),
+        Op::BvSub => where_is(0, n, Outcome::Argument),
+        Op::BvUdiv => divided_by(sort, n),
+        Op::BvUrem => rest_by(sort, n),
+        Op::BvShl | Op::BvLshr => by_shift(sort, n, Outcome::Number(0)),
+        Op::BvAshr => {
+            let sign = Outcome::Under(Op::BvAshr, u128::from(sort.width()) - 1);
+            by_shift(sort, n, sign)
+        }
         Op::BvUlt => at_least_two(n, Outcome::Truth(false), Outcome::Under(Op::Equal, 0)),
         Op::BvUle => at_ends(sort, n, Outcome::Under(Op::Equal, 0), Outcome::Truth(true)),
         Op::BvUgt => where_is(greatest(sort), n, Outcome::Truth(false)),
@@ -115,19 +172,65 @@ pub(crate) fn by_second(op: Op, sort: Sort, n: u128) -> Option<Outcome>
             let most = Outcome::Under(Op::Equal, greatest(sort));
             at_ends(sort, n, Outcome::Truth(true), most)
         }
+        Op::BvSlt => where_is(least_signed(sort), n, Outcome::Truth(false)),
+        Op::BvSle => at_most(sort, n),
+        Op::BvSgt => where_is(greatest_signed(sort), n, Outcome::Truth(false)),
+        Op::BvSge => at_least(sort, n),
         _ => by_either(op, sort, n),
     }
 }
 
 // A shift by nothing, and one by all bits or more.
-fn shifted_by(sort: Sort, n: u128) -> Option<Outcome>
-    ensures { result ≡ (if n == 0 then Some Argument
-        else (if nat_le (width_of sort) n then Some (Number 0) else None)) }
+fn by_shift(sort: Sort, n: u128, past: Outcome) -> Option<Outcome>
+    ensures { result ≡ by_shift sort n Argument past }
 {
     if n == 0 {
         Some(Outcome::Argument)
     } else if u128::from(sort.width()) <= n {
-        Some(Outcome::Number(0))
+        Some(past)
+    } else {
+        None
+    }
+}
+
+// A quotient by 0, by 1 and by another power of two.
+fn divided_by(sort: Sort, n: u128) -> Option<Outcome>
+    requires { IsLawful sort }
+    ensures { result ≡ by_second BvUdiv sort n }
+{
+    match n {
+        0 => Some(Outcome::Number(greatest(sort))),
+        1 => Some(Outcome::Argument),
+        _ => match power_in(sort, n) {
+            Some(k) => Some(Outcome::Under(Op::BvLshr, k)),
+            None => None,
+        },
+    }
+}
+
+// A remainder by them.
+fn rest_by(sort: Sort, n: u128) -> Option<Outcome>
+    requires { IsLawful sort }
+    ensures { result ≡ by_second BvUrem sort n }
+{
+    match n {
+        0 => Some(Outcome::Argument),
+        1 => Some(Outcome::Number(0)),
+        _ => match power_in(sort, n) {
+            Some(_) => Some(Outcome::Under(Op::BvAnd, n - 1)),
+            None => None,
+        },
+    }
+}
+
+// The k below the width of which n is the power of two.
+fn power_in(sort: Sort, n: u128) -> Option<u128>
+    requires { IsLawful sort }
+    ensures { result ≡ power_in (width_of sort) n }
+{
+    let k = n.trailing_zeros();
+    if k < u32::from(sort.width()) && n == 1 << k {
+        Some(u128::from(k))
     } else {
         None
     }
