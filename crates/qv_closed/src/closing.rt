@@ -24,7 +24,7 @@ const ROUNDS: u32 = 4;
 pub struct Closed {
     pub steps: Vec<Step>,
     pub refuted: bool,
-    pub pairs: Vec<(Lit, Lit)>,
+    pub pairs: Vec<Vec<Lit>>,
 }
 
 /// The closure of clauses whose ids count from 1. Where these are few or too many there is no step.

@@ -36,7 +36,7 @@ pub(crate) fn core_of(alloc: Global, clauses: &ClauseList) -> Result<Given, Allo
 pub(crate) fn asked_core_of(
     alloc: Global,
     clauses: &ClauseList,
-    pairs: Vec<(Lit, Lit)>,
+    pairs: Vec<Vec<Lit>>,
 ) -> Result<Given, AllocError>
     requires numbered { clauses.now ≡ from_one (clauses_of clauses.now.live) }
     requires each { All (λ c. c ≢ []) (clauses_of clauses.now.live) }

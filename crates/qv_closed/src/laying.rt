@@ -33,7 +33,7 @@ pub fn laid_core(
     alloc: Global,
     clauses: &ClauseList,
     steps: Vec<Step>,
-    pairs: Vec<(Lit, Lit)>,
+    pairs: Vec<Vec<Lit>>,
 ) -> Result<Laid, AllocError>
     requires numbered { clauses.now ≡ from_one (clauses_of clauses.now.live) }
     requires each { All (λ c. c ≢ []) (clauses_of clauses.now.live) }

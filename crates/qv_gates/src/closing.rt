@@ -27,7 +27,7 @@ pub struct Closure {
     // What is said to stand for each variable. It's looked at when it's asked for.
     faces: Vec<Option<Face>>,
     kept: Vec<u64>,
-    pairs: Vec<(Lit, Lit)>,
+    pairs: Vec<Vec<Lit>>,
     // The ids of the base, the id behind them, and the variable behind those that it names.
     ids: Vec<u64>,
     first: u64,
@@ -52,7 +52,7 @@ struct Found {
     steps: Vec<Step>,
     faces: Vec<Option<Face>>,
     kept: Vec<u64>,
-    pairs: Vec<(Lit, Lit)>,
+    pairs: Vec<Vec<Lit>>,
 }
 
 impl Closure {
@@ -128,7 +128,7 @@ impl Closure {
 
     /// The steps, and pairs of literals that may be equal: they are where gates were simulated, in
     /// the order of the gates. Nothing else is known of them.
-    pub fn finish(self) -> (Vec<Step>, Vec<(Lit, Lit)>)
+    pub fn finish(self) -> (Vec<Step>, Vec<Vec<Lit>>)
         ensures steps { lines_of result.0.items ≡ self.steps }
     {
         let Closure { steps, pairs, .. } = self;

@@ -113,9 +113,9 @@ fn mixed(number: u64) -> u64 {
 
 impl Search<'_> {
     /// Pairs of literals that have one value on each of 1,024 inputs by chance, as the gates say: an
-    /// earlier one and the output of a gate, in the order of the outputs. The variables are below
-    /// this one.
-    pub fn pairs(&self, variables: usize) -> Result<Vec<(Lit, Lit)>, AllocError> {
+    /// earlier one and the output of a gate, in the order of the outputs, each with the inputs of
+    /// that gate behind it. The variables are below this one.
+    pub fn pairs(&self, variables: usize) -> Result<Vec<Vec<Lit>>, AllocError> {
         let mut pairs = Vec::new(self.alloc);
         if variables <= MOST {
             let mut values = Simulation::new(self.alloc);
@@ -160,7 +160,7 @@ impl Search<'_> {
         &self,
         values: &Simulation,
         variables: u32,
-        pairs: &mut Vec<(Lit, Lit)>,
+        pairs: &mut Vec<Vec<Lit>>,
     ) -> Result<(), AllocError> {
         let mut firsts = HashMap::new(self.alloc);
         for variable in 1..variables {
@@ -176,17 +176,22 @@ impl Search<'_> {
         values: &Simulation,
         variable: u32,
         firsts: &mut HashMap<u64, u32>,
-        pairs: &mut Vec<(Lit, Lit)>,
+        pairs: &mut Vec<Vec<Lit>>,
     ) -> Result<(), AllocError> {
         let sum = values.sum(variable);
         let Some(first) = firsts.get(&sum).copied() else {
             firsts.insert(sum, variable)?;
             return Ok(());
         };
-        if self.nodes.of(variable).is_some() {
-            if let (Some(one), Some(other)) = (values.lit(first), values.lit(variable)) {
-                pairs.push((one, other))?;
+        if let Some(node) = self.nodes.of(variable) {
+            let mut pair = Vec::new(self.alloc);
+            for lit in [values.lit(first), values.lit(variable)] {
+                pair.extend(lit)?;
             }
+            for input in [node.form.a, node.form.b, node.form.c] {
+                pair.extend(literal(input))?;
+            }
+            pairs.push(pair)?;
         }
         Ok(())
     }

@@ -61,7 +61,7 @@ impl Core {
 
     /// Says of pairs of literals that each may be one literal. A long search looks whether they are,
     /// which the answers don't show.
-    pub fn suggest(&mut self, pairs: Vec<(Lit, Lit)>)
+    pub fn suggest(&mut self, pairs: Vec<Vec<Lit>>)
         ensures { self.new ≡ self.old }
     {
         self.solver.chooser.questions.suggest(pairs);

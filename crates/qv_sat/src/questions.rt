@@ -11,7 +11,7 @@ use std::alloc::Global;
 // Behind how many conflicts of a core's life they are asked, and how many conflicts one may take.
 const FIRST: u64 = 2_500;
 
-const MOST: u64 = 200;
+const MOST: u64 = 20;
 
 // Where so many more questions were left than answered, no others are asked.
 const LEFT: u32 = 20;
@@ -19,7 +19,8 @@ const LEFT: u32 = 20;
 // Pairs of literals, and the question of them that is asked now.
 #[derive(Drop)]
 pub(crate) struct Questions {
-    pairs: Vec<(Lit, Lit)>,
+    // Each two literals, and behind them others that are decided next.
+    pairs: Vec<Vec<Lit>>,
     // Two questions a pair: whether the first may be true and the second false, and the other way
     // round.
     place: usize,
@@ -42,7 +43,7 @@ impl Questions {
     }
 
     // From now on these pairs are asked about, and no others.
-    pub(crate) fn suggest(&mut self, pairs: Vec<(Lit, Lit)>) {
+    pub(crate) fn suggest(&mut self, pairs: Vec<Vec<Lit>>) {
         self.pairs = pairs;
         self.place = 0;
         self.begun = None;
@@ -79,16 +80,23 @@ impl Questions {
         true
     }
 
-    // The literals that the question says are true.
-    fn asked(&self) -> Option<(Lit, Lit)> {
+    // Which pair the question is of, if there is one and it's open.
+    fn asked(&self) -> Option<&[Lit]> {
         if self.begun.is_none() || self.is_answered || self.left > LEFT {
             return None;
         }
-        let (one, other) = self.pairs.get(self.place / 2).copied()?;
-        if self.place % 2 == 0 {
-            Some((one, other.negated()))
+        Some(self.pairs.get(self.place / 2)?)
+    }
+
+    // A literal of the pair as the question says it is: the first is true and the second false, or the
+    // other way round.
+    fn said(&self, place: usize, lit: Lit) -> Lit
+        ensures { result.variable ≡ lit.variable }
+    {
+        if place < 2 && place % 2 != self.place % 2 {
+            lit.negated()
         } else {
-            Some((one.negated(), other))
+            lit
         }
     }
 
@@ -98,20 +106,18 @@ impl Questions {
         ensures within { IfSome result (IsWithin variables) }
         ensures free { IfSome result (λ lit. value_of trail.now.entries lit ≡ None) }
     {
-        let (one, other) = self.asked()?;
-        let lit = match (trail.value(one), trail.value(other)) {
-            (Some(true), Some(true)) => return None,
-            (Some(true), None) => other,
-            (None, Some(true) | None) => one,
-            _ => {
-                self.is_answered = true;
-                return None;
+        let lits = self.asked()?;
+        for (place, lit) in lits.iter().enumerate() {
+            let lit = self.said(place, *lit);
+            match trail.value(lit) {
+                None if lit.variable() <= variables => return Some(lit),
+                Some(false) if place < 2 => {
+                    self.is_answered = true;
+                    return None;
+                }
+                _ => {}
             }
-        };
-        if lit.variable() <= variables {
-            Some(lit)
-        } else {
-            None
         }
+        None
     }
 }

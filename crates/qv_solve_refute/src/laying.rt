@@ -33,7 +33,7 @@ pub(crate) fn laid_list(
     alloc: Global,
     clauses: &ClauseList,
     steps: Vec<Step>,
-    pairs: Vec<(Lit, Lit)>,
+    pairs: Vec<Vec<Lit>>,
 ) -> Result<Laid, NoMemory>
     requires numbered { clauses.now ≡ from_one (clauses_of clauses.now.live) }
     requires each { All (λ c. c ≢ []) (clauses_of clauses.now.live) }
