@@ -9,7 +9,7 @@ bench/cases/rewrite_cases.py writes them with its own.
 
 Terms are written as in bench/cases/rewrite_cases.py. A row of the table is a pair of texts: a form, and what it
 becomes. In them x stands for any word and p for any truth value of the sort that is tried, 0 for the literal of no bit,
-* for that of all bits, and 1 for that of the lowest.
+* for that of all bits, and 1 for that of the lowest. As signed numbers - is the least, all bits but the highest are +, the greatest.
 """
 import random
 import sys
@@ -34,6 +34,9 @@ bvult x 0 > false               bvult x 1 > = x 0               bvult * x > fals
 bvule x 0 > = x 0               bvule x * > true                bvule 0 x > true                bvule * x > = x *
 bvugt x * > false               bvugt 0 x > false               bvugt 1 x > = x 0
 bvuge x 0 > true                bvuge x * > = x *               bvuge 0 x > = x 0               bvuge * x > true
+bvslt x - > false               bvslt + x > false               bvsgt x + > false               bvsgt - x > false
+bvsle x + > true                bvsle x - > = x -               bvsle - x > true                bvsle + x > = x +
+bvsge x - > true                bvsge x + > = x +               bvsge + x > true                bvsge - x > = x -
 """
 
 # a term and itself, and a term and its complement
@@ -69,7 +72,7 @@ EITHER, WAY, SAME, OTHER = map(table, [TABLE, ONE_WAY, TWINS, OPPOSITES])
 
 def number(sort, mark):
     w = 1 if sort == "bool" else sort
-    return literal(sort, {"0": 0, "1": 1, "*": 2**w - 1}[mark])
+    return literal(sort, {"0": 0, "1": 1, "*": 2**w - 1, "-": 2**(w - 1), "+": 2**(w - 1) - 1}[mark])
 
 
 def opposite(t):
@@ -94,7 +97,7 @@ def right_side(words, t):
 
 def marks(sort, t):
     """The marks of a literal, those that stand first in the table first."""
-    return [mark for mark in "01*" if value_of(t) is not None and t == number(sort, mark)]
+    return [mark for mark in "01*-+" if value_of(t) is not None and t == number(sort, mark)]
 
 
 def beside(op, t, mark, rows, place):
@@ -108,6 +111,20 @@ def beside(op, t, mark, rows, place):
                 return rows[op, name, mark]
 
 
+def behind(op, t, n):
+    """A shift by the width or more, and division by a power of two above 1."""
+    w = sort_of(t)
+    if op in ["bvshl", "bvlshr"] and n >= w:
+        return literal(w, 0)
+    if op == "bvashr" and n >= w:
+        return op, [t, literal(w, w - 1)]
+    k = n.bit_length() - 1
+    if n == 2**k > 1 and op == "bvudiv":
+        return "bvlshr", [t, literal(w, k)]
+    if n == 2**k > 1 and op == "bvurem":
+        return "bvand", [t, literal(w, n - 1)]
+
+
 def of_two(op, a, b):
     if a == b:
         row = SAME.get((op, "x", "x")) or SAME.get((op, "p", "p"))
@@ -118,8 +135,9 @@ def of_two(op, a, b):
     for place, known, t in [(1, b, a), (0, a, b)]:
         if value_of(known) is None:
             continue
-        if place and op in ["bvshl", "bvlshr"] and value_of(known) >= sort_of(t):
-            return literal(sort_of(t), 0)
+        row = behind(op, t, value_of(known)) if place else None
+        if row:
+            return row
         for mark in marks(sort_of(t), known):
             row = beside(op, t, mark, WAY, place) or beside(op, t, mark, EITHER, place)
             if row:
@@ -169,7 +187,7 @@ def random_small(chosen, sort, depth):
     if depth == 0 or chosen.random() < 0.1:
         w = 1 if sort == "bool" else sort
         if chosen.random() < 0.5:
-            return literal(sort, chosen.choice([0, 0, 1, 2**w - 1, 2**w - 1, min(w, 2**w - 1), chosen.randrange(2**w)]))
+            return literal(sort, chosen.choice([0, 0, 1, 2**w - 1, 2**w - 1, min(w, 2**w - 1), 2**(w - 1), 2**(w - 1) - 1, 2**chosen.randrange(w), chosen.randrange(2**w)]))
         return f"{chosen.choice('cv')}{chosen.randrange(2)}:{sort}"
     if chosen.random() < 0.15:
         c, a = random_small(chosen, "bool", depth - 1), random_small(chosen, sort, depth - 1)
@@ -207,13 +225,41 @@ EXAMPLES = [
     ("v0:bool not bool:1 xor", "v0:bool"), ("v0:8 bvnot 8:ff bvxor", "v0:8"),
     # shifts, division and remainder
     ("v0:8 8:0 bvshl", "v0:8"), ("v0:8 8:8 bvshl", "8:0"), ("v0:8 8:7 bvshl", "v0:8 8:7 bvshl"),
-    ("v0:8 8:ff bvlshr", "8:0"), ("v0:8 8:8 bvashr", "v0:8 8:8 bvashr"), ("v0:8 8:0 bvashr", "v0:8"),
+    ("v0:8 8:ff bvlshr", "8:0"), ("v0:8 8:0 bvashr", "v0:8"),
     ("8:0 v0:8 bvlshr", "8:0"), ("v0:8 8:1 bvudiv", "v0:8"), ("v0:8 8:0 bvudiv", "8:ff"),
-    ("v0:8 8:1 bvurem", "8:0"), ("v0:8 8:0 bvurem", "v0:8"), ("v0:8 8:2 bvudiv", "v0:8 8:2 bvudiv"),
+    ("v0:8 8:1 bvurem", "8:0"), ("v0:8 8:0 bvurem", "v0:8"),
+    # division and remainder by a power of two, and by what is beside one
+    ("v0:8 8:2 bvudiv", "v0:8 8:1 bvlshr"), ("v0:8 8:40 bvudiv", "v0:8 8:6 bvlshr"),
+    ("v0:8 8:80 bvudiv", "v0:8 8:7 bvlshr"),
+    ("v0:128 128:80000000000000000000000000000000 bvudiv", "v0:128 128:7f bvlshr"),
+    ("v0:8 8:3 bvudiv", "v0:8 8:3 bvudiv"), ("v0:8 8:3f bvudiv", "v0:8 8:3f bvudiv"),
+    ("v0:8 8:41 bvudiv", "v0:8 8:41 bvudiv"), ("8:2 v0:8 bvudiv", "8:2 v0:8 bvudiv"), ("v0:1 1:1 bvudiv", "v0:1"),
+    ("v0:1 1:0 bvudiv", "1:1"), ("v0:8 8:2 bvurem", "v0:8 8:1 bvand"), ("v0:8 8:10 bvurem", "v0:8 8:f bvand"),
+    ("v0:8 8:80 bvurem", "v0:8 8:7f bvand"), ("v0:8 8:7f bvurem", "v0:8 8:7f bvurem"),
+    ("v0:8 8:ff bvurem", "v0:8 8:ff bvurem"), ("8:10 v0:8 bvurem", "8:10 v0:8 bvurem"), ("v0:1 1:1 bvurem", "1:0"),
+    # an arithmetic shift by the width or more
+    ("v0:8 8:8 bvashr", "v0:8 8:7 bvashr"), ("v0:8 8:ff bvashr", "v0:8 8:7 bvashr"),
+    ("v0:8 8:7 bvashr", "v0:8 8:7 bvashr"), ("8:8 v0:8 bvashr", "8:8 v0:8 bvashr"),
+    ("v0:128 128:80 bvashr", "v0:128 128:7f bvashr"), ("v0:1 1:1 bvashr", "v0:1 1:0 bvashr"),
+    ("v0:1 1:0 bvashr", "v0:1"),
     # comparisons with an end of the range
     ("v0:8 8:0 bvult", "bool:0"), ("v0:8 8:1 bvult", "v0:8 8:0 ="), ("v0:8 8:0 bvule", "v0:8 8:0 ="),
     ("8:ff v0:8 bvule", "v0:8 8:ff ="), ("8:1 v0:8 bvugt", "v0:8 8:0 ="), ("v0:8 8:ff bvuge", "v0:8 8:ff ="),
     ("8:0 v0:8 bvult", "8:0 v0:8 bvult"), ("v0:1 1:1 bvult", "v0:1 1:0 ="),
+    # comparisons of signed numbers with the least and the greatest, and beside them
+    ("v0:8 8:80 bvslt", "bool:0"), ("v0:8 8:7f bvslt", "v0:8 8:7f bvslt"), ("v0:8 8:81 bvslt", "v0:8 8:81 bvslt"),
+    ("v0:8 8:7f bvsle", "bool:1"), ("v0:8 8:80 bvsle", "v0:8 8:80 ="), ("v0:8 8:7e bvsle", "v0:8 8:7e bvsle"),
+    ("v0:8 8:7f bvsgt", "bool:0"), ("v0:8 8:80 bvsgt", "v0:8 8:80 bvsgt"), ("v0:8 8:80 bvsge", "bool:1"),
+    ("v0:8 8:7f bvsge", "v0:8 8:7f ="), ("v0:8 8:81 bvsge", "v0:8 8:81 bvsge"), ("8:7f v0:8 bvslt", "bool:0"),
+    ("8:80 v0:8 bvslt", "8:80 v0:8 bvslt"), ("8:80 v0:8 bvsle", "bool:1"), ("8:7f v0:8 bvsle", "v0:8 8:7f ="),
+    ("8:ff v0:8 bvsle", "8:ff v0:8 bvsle"), ("8:80 v0:8 bvsgt", "bool:0"), ("8:7f v0:8 bvsgt", "8:7f v0:8 bvsgt"),
+    ("8:7f v0:8 bvsge", "bool:1"), ("8:80 v0:8 bvsge", "v0:8 8:80 ="), ("8:0 v0:8 bvsge", "8:0 v0:8 bvsge"),
+    # the same at one bit, where the least is 1 and the greatest 0
+    ("v0:1 1:1 bvslt", "bool:0"), ("v0:1 1:0 bvslt", "v0:1 1:0 bvslt"), ("v0:1 1:0 bvsle", "bool:1"),
+    ("v0:1 1:1 bvsle", "v0:1 1:1 ="), ("v0:1 1:0 bvsgt", "bool:0"), ("v0:1 1:1 bvsge", "bool:1"),
+    ("v0:1 1:0 bvsge", "v0:1 1:0 ="), ("1:0 v0:1 bvslt", "bool:0"), ("1:1 v0:1 bvsle", "bool:1"),
+    ("1:0 v0:1 bvsle", "v0:1 1:0 ="), ("1:1 v0:1 bvsgt", "bool:0"), ("1:0 v0:1 bvsge", "bool:1"),
+    ("1:1 v0:1 bvsge", "v0:1 1:1 ="),
     # a term and itself, and a term and its complement
     ("v0:8 v0:8 bvxor", "8:0"), ("v0:8 v0:8 bvnand", "v0:8 bvnot"), ("v0:8 v0:8 bvsub", "8:0"),
     ("v0:8 v0:8 bvslt", "bool:0"), ("v0:bool v0:bool =>", "bool:1"), ("v0:8 v0:8 bvudiv", "v0:8 v0:8 bvudiv"),
@@ -224,6 +270,8 @@ EXAMPLES = [
     # what a rule makes is met by the rules above it
     ("v0:8 8:ff bvule v0:bool and", "v0:bool"), ("v0:8 v0:8 bvxor v1:8 bvor", "v1:8"),
     ("v0:bool v0:8 8:0 bvuge v0:8 8:0 bvult ite", "v0:bool"),
+    ("v0:bool v0:8 8:7f bvsle v0:8 8:7f bvsgt ite", "v0:bool"),
+    ("v0:8 8:4 bvudiv 8:4 bvurem", "v0:8 8:2 bvlshr 8:3 bvand"),
 ]
 
 
@@ -236,10 +284,10 @@ def made_of(chosen, i):
 
 
 def each_row():
-    """Each operator of the tables beside each end of the range, at several sorts."""
+    """Each operator of the tables beside each end of the range, at several sorts: of signed numbers at those without examples."""
     for rows in [EITHER, WAY, SAME, OTHER]:
         for op, a, b in rows:
-            for sort in ["bool"] if "p" in a + b else [1, 3, 8, 128]:
+            for sort in ["bool"] if "p" in a + b else [3, 128] if set("+-") & {a, b} else [1, 3, 8, 128]:
                 t = f"v0:{sort}"
                 sides = [t if side in "xp" else opposite(t) if side[0] == "~" else number(sort, side) for side in [a, b]]
                 yield op, sides
@@ -271,7 +319,7 @@ def rows(chosen):
         yield text, "bad case"
     yield "", None
     yield "# random terms", None
-    for i in range(400):
+    for i in range(360):
         yield pass_row("simp", simped, made_of(chosen, i))
     yield "", None
     yield "# and with values", None

@@ -3,7 +3,8 @@
 ghost use Rattle.std.specs.Prelude.{◌≡◌, ◌-◌, ◌==◌, true, if◌then◌else◌, Some, None};
 ghost use Rattle.qv_words.specs.Sort.{IsLawful, width_of};
 ghost use Rattle.qv_words.specs.declared.op.Op.TheVariants.{Equal, BvUdiv, BvUrem};
-ghost use Rattle.qv_rewrite_passes.specs.declared.outcome.Outcome.TheVariants.{Argument, Truth, Under};
+ghost use Rattle.qv_rewrite_passes.specs.declared.outcome.Outcome.TheVariants.{Argument};
+ghost use Rattle.qv_rewrite_passes.specs.declared.outcome.Outcome.TheVariants.{Truth, Under};
 ghost use Rattle.qv_rewrite_passes.specs.Simps.{greatest, where_is, at_ends};
 ghost use Rattle.qv_rewrite_passes.specs.Simps.{least_signed, greatest_signed, at_signed_ends};
 ghost use Rattle.qv_rewrite_passes.specs.Simps.{by_shift, power_in};
@@ -132,7 +133,7 @@ pub(crate) fn by_first(op: Op, sort: Sort, n: u128) -> Option<Outcome>
     }
 }
 
-// Whether it is at least n, as a signed number.
+// Whether the other is at least n, as a signed number.
 fn at_least(sort: Sort, n: u128) -> Option<Outcome>
     requires { IsLawful sort }
     ensures { result ≡ at_signed_ends sort n (Truth true) (Under Equal (greatest_signed sort)) }
@@ -141,7 +142,7 @@ fn at_least(sort: Sort, n: u128) -> Option<Outcome>
     at_signed_ends(sort, n, Outcome::Truth(true), most)
 }
 
-// Whether it is at most n.
+// Whether it is at most n, likewise.
 fn at_most(sort: Sort, n: u128) -> Option<Outcome>
     requires { IsLawful sort }
     ensures { result ≡ at_signed_ends sort n (Under Equal (least_signed sort)) (Truth true) }
