@@ -38,7 +38,7 @@ pub(crate) struct Measure {
     pub(crate) sums: bool,
     // It has an exclusive or, or an exclusive nor.
     pub(crate) xors: bool,
-    // How many multiplications it has of two terms that are no literals.
+    // How many divisions it has, and multiplications of two terms that are no literals.
     pub(crate) products: usize,
     // How many terms it has.
     pub(crate) terms: usize,
@@ -115,7 +115,7 @@ fn has_kind(store: &Store, walk: &Walk, kind: Kind) -> bool
     false
 }
 
-// How many multiplications of two terms that are no literals the terms are.
+// How many divisions the terms are, and multiplications of two terms that are no literals.
 fn count_products(store: &Store, walk: &Walk) -> usize
     requires { IsWalk store.now walk.now }
     ensures { result ≤ length walk.now }
@@ -129,7 +129,8 @@ fn count_products(store: &Store, walk: &Walk) -> usize
     count
 }
 
-// Whether a term is such a multiplication.
+// Whether a term is such a multiplication, or a division or a remainder: these have all their gates
+// whatever their arguments are.
 fn is_product(store: &Store, id: Id) -> bool
     requires { id < length store.now }
 {
@@ -138,8 +139,16 @@ fn is_product(store: &Store, id: Id) -> bool
             op: Op::BvMul,
             kids,
         } => !has_literal(store, kids.as_slice()),
+        Node::App { op, .. } => is_division(*op),
         _ => false,
     }
+}
+
+fn is_division(op: Op) -> bool {
+    matches!(
+        op,
+        Op::BvUdiv | Op::BvUrem | Op::BvSdiv | Op::BvSrem | Op::BvSmod
+    )
 }
 
 // Whether a term is a literal.
