@@ -153,7 +153,7 @@ EQUAL = {
     "absolute-of-negated": ("(ite (bvslt x 0) (bvneg x) x)", "(ite (bvslt (bvneg x) 0) x (bvneg x))", [8, 16, 32, 64]),
     "average": ("(bvadd (bvand x y) (bvlshr (bvxor x y) 1))", "(bvsub (bvor x y) (bvsub (bvxor x y) (bvlshr (bvxor x y) 1)))", [8, 16, 32, 64]),
     "or-and-sum": ("(bvadd (bvor x y) (bvand x y))", "(bvadd x y)", [8, 16, 32, 64]),
-    "remainder-of-negated": ("(ite (= x (bvneg x)) x (bvsrem (bvneg x) y))", "(ite (= x (bvneg x)) x (bvneg (bvsrem x y)))", [4, 6, 8]),
+    "remainder-of-negated": ("(ite (= x (bvneg x)) x (bvsrem (bvneg x) y))", "(ite (= x (bvneg x)) x (bvneg (bvsrem x y)))", [4, 6, 8, 12, 16]),
     "remainder-by-five": ("(bvurem x 5)", "(bvsub x (bvmul 5 (bvudiv x 5)))", [8, 16, 32]),
     "gray": ("(bvxor (bvxor x (bvlshr x 1)) (bvlshr y 1))", "(bvxor (bvlshr (bvxor x y) 1) x)", [8, 16, 32, 64]),
 }
