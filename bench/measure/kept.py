@@ -33,6 +33,8 @@ def main():
     kept, lacking = rt["Kept"](order), []
     for crate in order:
         stamp = f"{crate.folder}/out/rlib/stamp"
+        # a file that is there already would make what was kept look damaged
+        shutil.rmtree(os.path.dirname(stamp), ignore_errors=True)
         os.makedirs(f"{crate.folder}/out", exist_ok=True)
         if any(under.name in lacking for under in crate.below()) or not kept.give(crate, False, kept.key(crate)):
             lacking.append(crate.name)
