@@ -1207,6 +1207,9 @@ TWICE = b"(declare-const p Bool)(declare-const q Bool)(assert (and (or p q) (or 
 ONE = b"(declare-const p Bool)(assert p)(check-sat)"
 # Of formulas with quantifiers no check offers values to the next.
 QUANTIFIED = b"(assert (forall ((q Bool)) (or p q)))"
+# The remainder of a negated number is the negated remainder.
+REMAINDERS = (b"(declare-const x (_ BitVec 9))(declare-const y (_ BitVec 9))(assert (distinct (ite (= x (bvneg x)) x (bvsrem (bvneg x) y))"
+              b" (ite (= x (bvneg x)) x (bvneg (bvsrem x y)))))(check-sat)")
 SUCCESSOR = (b"(set-info :status unsat)(set-logic BV)(declare-fun x () (_ BitVec 32))(assert (let ((?v_0 (bvadd x #x00000001))) (= ?v_0 x)))"
              b"(check-sat)(exit)")
 
@@ -1237,6 +1240,8 @@ def write_worked():
     run(b"(get-unsat-core)")
     run(SUCCESSOR, known=numbered(UNSAT))
     run(SUCCESSOR, variables=100, known=numbered(UNSAT))
+    note("\nGates of two circuits that are equal: without questions about them the search takes over 10,000 conflicts.")
+    run(REMAINDERS, conflicts=6000, known=numbered(UNSAT))
     note("\nPlaces up to the limit on prefixes, and one more.")
     for count in (4096, 4097):
         made = b"".join(b"(declare-const a%d Bool)(assert a%d)" % (n, n) for n in range(count)) + b"(check-sat)"
