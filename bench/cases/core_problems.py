@@ -1,5 +1,6 @@
 #!/usr/bin/env python3
-"""Writes the problems of bench/measure/core.sh into a folder: DIMACS files, from fixed seeds.
+"""Writes the problems of bench/measure/core.sh into a folder, from fixed seeds: DIMACS files, and beside each a script
+that has the same gates as terms.
 usage: core_problems.py FOLDER"""
 
 import itertools
@@ -8,11 +9,24 @@ import random
 import sys
 
 
+class Clauses(list):
+    """Clauses; the operator and the inputs of each variable that is a gate, and the places of the gates' clauses."""
+
+    def __init__(self):
+        super().__init__()
+        self.gates, self.places = {}, set()
+
+    def gate(self, out, operator, a, b, clauses):
+        self.gates[out] = operator, a, b
+        self.places.update(range(len(self), len(self) + len(clauses)))
+        self.extend(map(list, clauses))
+
+
 class Gates:
     """Clauses of circuits: literals are numbers, and 0 is none."""
 
     def __init__(self):
-        self.clauses, self.variables = [], 0
+        self.clauses, self.variables = Clauses(), 0
 
     def new(self):
         self.variables += 1
@@ -26,9 +40,7 @@ class Gates:
 
     def both(self, a, b):
         out = self.new()
-        self.add(-out, a)
-        self.add(-out, b)
-        self.add(out, -a, -b)
+        self.clauses.gate(out, "and", a, b, [(-out, a), (-out, b), (out, -a, -b)])
         return out
 
     def either(self, a, b):
@@ -36,8 +48,7 @@ class Gates:
 
     def apart(self, a, b):
         out = self.new()
-        for clause in ((-out, a, b), (-out, -a, -b), (out, -a, b), (out, a, -b)):
-            self.add(*clause)
+        self.clauses.gate(out, "xor", a, b, [(-out, a, b), (-out, -a, -b), (out, -a, b), (out, a, -b)])
         return out
 
     def choose(self, test, yes, no):
@@ -211,9 +222,32 @@ def problems():
     yield "factors-65537", factors(17, 65537)
 
 
+def literal(lit):
+    return f"v{lit}" if lit > 0 else f"(not v{-lit})"
+
+
+def script(clauses, variables):
+    """The gates as terms, and the other clauses as assertions."""
+    gates, places = (clauses.gates, clauses.places) if isinstance(clauses, Clauses) else ({}, set())
+    lines = ["(set-logic QF_BV)"]
+    for name in range(1, variables + 1):
+        if name in gates:
+            operator, a, b = gates[name]
+            lines.append(f"(define-fun v{name} () Bool ({operator} {literal(a)} {literal(b)}))")
+        else:
+            lines.append(f"(declare-const v{name} Bool)")
+    for place, clause in enumerate(clauses):
+        if place not in places:
+            words = " ".join(map(literal, clause))
+            lines.append(f"(assert (or {words}))" if len(clause) > 1 else f"(assert {words})")
+    return "\n".join([*lines, "(check-sat)", ""])
+
+
 def main():
     for name, clauses in problems():
         variables = max(abs(lit) for clause in clauses for lit in clause)
+        with open(os.path.join(sys.argv[1], name + ".smt2"), "w") as it:
+            it.write(script(clauses, variables))
         with open(os.path.join(sys.argv[1], name + ".cnf"), "w") as it:
             it.write(f"p cnf {variables} {len(clauses)}\n")
             it.writelines(" ".join(map(str, clause)) + " 0\n" for clause in clauses)

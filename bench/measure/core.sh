@@ -5,7 +5,9 @@
 # three terms in two orders, quotients by constants, a number's factors, and designs that yosys unrolls. Each
 # answer of the core is checked in a run of its own. Needs minisat, cadical and a C++ compiler; without yosys
 # there are no designs.
-# usage: bench/measure/core.sh [SECONDS]   SECONDS is the limit for one problem
+# `qbv solve` gets the same gates as terms, and `qbv check` its certificates: there closure on gates comes before the
+# search. QBV is its program, or dist/qbv.
+# usage: bench/measure/core.sh [SECONDS [QBV]]   SECONDS is the limit for one problem
 set -eu
 top=$(cd "$(dirname "$0")/../.." && pwd)
 cd "$top/crates/qv_sat_dimacs_cases"
@@ -22,4 +24,4 @@ if command -v yosys > /dev/null; then
     for steps in 8 12 16; do unroll queue "$steps"; done
 fi
 c++ -O2 -o "$room/policy" "$top/bench/measure/core_policy.cpp"
-python3 "$top/bench/measure/core_times.py" "$PWD/out/qv_sat_dimacs_cases" "$room/policy" "$room" "${1:-100}"
+python3 "$top/bench/measure/core_times.py" "$PWD/out/qv_sat_dimacs_cases" "$room/policy" "$room" "${1:-100}" "${2:-$top/dist/qbv}"
