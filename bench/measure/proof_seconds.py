@@ -10,21 +10,10 @@ owns and `Proof` the search for the goals. Run it on a quiet machine.
 """
 import collections, os, re, resource, subprocess, sys, tempfile
 
-KIT = os.path.dirname(subprocess.run(["rt", "doc"], capture_output=True, text=True, check=True).stdout.split()[-1])
-TOP = os.path.dirname(os.path.dirname(os.path.dirname(os.path.abspath(__file__))))
+from crates import KIT, TOP, crates
+
 PARTS = set("Kinds Lts Tie Layout Reads Proof Code Mir Named TheLink Symbol Met Statement Given Goals Key View "
             "TheLaws TheReach Answers Invariants TheVariants decls".split())
-
-
-def crates():
-    below = {}
-    with open(f"{TOP}/crates.txt") as lines:
-        for line in lines:
-            line = line.split("#")[0].strip()
-            if line:
-                name, deps = line.split(":")
-                below[name.split()[0]] = deps.split()
-    return below
 
 
 def rlib(name):
