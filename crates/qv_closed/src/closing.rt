@@ -7,8 +7,8 @@ ghost use Rattle.qv_cnf.specs.Refutation.{standing_at, Refutes};
 ghost use Rattle.qv_blast.specs.Blasters.{from_one};
 ghost use Rattle.qv_gates.specs.Closing.{no_clauses, Adds};
 
-use qv_cnf::{ClauseList, Lit, Step};
-use qv_gates::Closure;
+use qv_cnf::{ClauseList, Step};
+use qv_gates::{Advice, Closure};
 use std::alloc::{AllocError, Global};
 
 // A search does with fewer clauses by itself, and more take too long.
@@ -19,12 +19,12 @@ const MOST: u64 = 6_000_000;
 // So many rounds by gates alone, and then so many by all clauses.
 const ROUNDS: u32 = 4;
 
-/// The steps of a closure, whether they refute its clauses, and pairs of literals that may be equal.
+/// The steps of a closure, whether they refute its clauses, and what a search may use.
 #[derive(Drop)]
 pub struct Closed {
     pub steps: Vec<Step>,
     pub refuted: bool,
-    pub pairs: Vec<Vec<Lit>>,
+    pub advice: Advice,
 }
 
 /// The closure of clauses whose ids count from 1. Where these are few or too many there is no step.
@@ -42,18 +42,18 @@ pub fn close(alloc: Global, clauses: &ClauseList) -> Result<Closed, AllocError>
         return Ok(Closed {
             steps: Vec::new(alloc),
             refuted: false,
-            pairs: Vec::new(alloc),
+            advice: Advice::none(alloc),
         });
     }
     // Where memory is wanting there are fewer steps.
     let _closed = closure.close(ROUNDS);
     let _steps = closure.steps();
     let refuted = closure.is_refuted();
-    let (steps, pairs) = closure.finish();
+    let (steps, advice) = closure.finish();
     Ok(Closed {
         steps,
         refuted,
-        pairs,
+        advice,
     })
 }
 

@@ -28,28 +28,28 @@ pub(crate) fn core_of(alloc: Global, clauses: &ClauseList) -> Result<Given, Allo
     ensures next { IfOk result (λ given. given.next ≡ suc given.core.top) }
 {
     let mut core = Core::new(alloc);
-    let next = add_all(&mut core, clauses)?;
+    let next = add_all(&mut core, clauses, &[])?;
     Ok(Given { core, next })
 }
 
-/// The same core, which looks in a long search whether these pairs of literals are equal.
-pub(crate) fn asked_core_of(
+/// The same core, which leaves clauses aside that have a guard.
+pub(crate) fn guarded_core_of(
     alloc: Global,
     clauses: &ClauseList,
-    pairs: Vec<Vec<Lit>>,
+    guards: &[u32],
 ) -> Result<Given, AllocError>
     requires numbered { clauses.now ≡ from_one (clauses_of clauses.now.live) }
     requires each { All (λ c. c ≢ []) (clauses_of clauses.now.live) }
     ensures fed { IfOk result (λ given. IsFed given.core clauses.now.live) }
     ensures next { IfOk result (λ given. given.next ≡ suc given.core.top) }
 {
-    let mut given = core_of(alloc, clauses)?;
-    given.core.suggest(pairs);
-    Ok(given)
+    let mut core = Core::new(alloc);
+    let next = add_all(&mut core, clauses, guards)?;
+    Ok(Given { core, next })
 }
 
 // Adds them to a core that has none, and gives the id behind them.
-fn add_all(core: &mut Core, clauses: &ClauseList) -> Result<u64, AllocError>
+fn add_all(core: &mut Core, clauses: &ClauseList, guards: &[u32]) -> Result<u64, AllocError>
     requires empty { core.old ≡ empty_core }
     requires numbered { clauses.now ≡ from_one (clauses_of clauses.now.live) }
     requires each { All (λ c. c ≢ []) (clauses_of clauses.now.live) }
@@ -58,9 +58,22 @@ fn add_all(core: &mut Core, clauses: &ClauseList) -> Result<u64, AllocError>
 {
     'fed: for id in 1..MOST_IDS {
         match clauses.get(id) {
-            Some(lits) => core.add(id, lits)?,
+            Some(lits) => give(core, id, lits, guards)?,
             None => return Ok(id),
         }
     }
     Err(AllocError)
+}
+
+/// Adds a clause, which is left aside where it has a guard.
+pub(crate) fn give(core: &mut Core, id: u64, lits: &[Lit], guards: &[u32]) -> Result<(), AllocError>
+    requires above { core.old.top < id }
+    requires few { id < 2 ^ 62 }
+    requires some { lits.now ≢ [] }
+    ensures ok { OnOk result (core.new ≡ with_base core.old id lits.now) }
+{
+    match guards.get(id as usize) {
+        Some(guard) => core.set_aside(id, lits, *guard),
+        None => core.add(id, lits),
+    }
 }

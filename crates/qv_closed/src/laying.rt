@@ -11,9 +11,10 @@ ghost use Rattle.qv_blast.specs.Blasters.{from_one};
 ghost use Rattle.qv_meter.specs.Bases.{IsBaseOf};
 ghost use Rattle.qv_closed.specs.Cores.{IsAddedTo, IsFed, IsLaid};
 
-use crate::feeding::{MOST_IDS, asked_core_of, core_of};
+use crate::feeding::{MOST_IDS, core_of, give, guarded_core_of};
 use crate::ids::have_ids;
-use qv_cnf::{ClauseList, Lit, Step};
+use qv_cnf::{ClauseList, Step};
+use qv_gates::Advice;
 use qv_sat::Core;
 use std::alloc::{AllocError, Global};
 
@@ -27,13 +28,12 @@ pub struct Laid {
 }
 
 /// A core that has these clauses, whose ids count from 1, and behind them those that the steps add.
-/// Where they can't be added there are no steps. A long search looks whether the pairs of literals
-/// are equal.
+/// Where they can't be added there are no steps. A search may use the advice.
 pub fn laid_core(
     alloc: Global,
     clauses: &ClauseList,
     steps: Vec<Step>,
-    pairs: Vec<Vec<Lit>>,
+    advice: Advice,
 ) -> Result<Laid, AllocError>
     requires numbered { clauses.now ≡ from_one (clauses_of clauses.now.live) }
     requires each { All (λ c. c ≢ []) (clauses_of clauses.now.live) }
@@ -46,9 +46,11 @@ pub fn laid_core(
     ensures base { IfOk result (λ laid. (formulas : List Tree) →
         IsBaseOf clauses.now.live formulas → IsBaseOf laid.core.base formulas) }
 {
-    let mut given = asked_core_of(alloc, clauses, pairs)?;
+    let Advice { pairs, guards } = advice;
+    let mut given = guarded_core_of(alloc, clauses, &guards)?;
+    given.core.suggest(pairs);
     let first = given.next;
-    if let Some(next) = lay(&mut given.core, first, &steps)? {
+    if let Some(next) = lay(&mut given.core, first, &steps, &guards)? {
         return Ok(Laid {
             core: given.core,
             steps,
@@ -65,7 +67,12 @@ pub fn laid_core(
 
 // Adds the clauses of steps to a core that has taken none, and whose next id is this one, and gives
 // the id behind them. Where some can't be added the core is given up.
-fn lay(core: &mut Core, first: u64, steps: &[Step]) -> Result<Option<u64>, AllocError>
+fn lay(
+    core: &mut Core,
+    first: u64,
+    steps: &[Step],
+    guards: &[u32],
+) -> Result<Option<u64>, AllocError>
     requires none { core.old.steps ≡ [] }
     requires next { first ≡ suc core.old.top }
     requires few { core.old.top < 2 ^ 61 }
@@ -80,7 +87,7 @@ fn lay(core: &mut Core, first: u64, steps: &[Step]) -> Result<Option<u64>, Alloc
     }
     let mut next = first;
     'laid: for step in steps {
-        match lay_one(core, next, step)? {
+        match lay_one(core, next, step, guards)? {
             Some(behind) => next = behind,
             None => return Ok(None),
         }
@@ -89,7 +96,12 @@ fn lay(core: &mut Core, first: u64, steps: &[Step]) -> Result<Option<u64>, Alloc
 }
 
 // Adds the clause of a step, if its id is at least this one, and gives the id behind it.
-fn lay_one(core: &mut Core, next: u64, step: &Step) -> Result<Option<u64>, AllocError>
+fn lay_one(
+    core: &mut Core,
+    next: u64,
+    step: &Step,
+    guards: &[u32],
+) -> Result<Option<u64>, AllocError>
     requires { next ≡ suc core.old.top }
     ensures { IfOk result (λ behind. IfSome behind (λ id.
         IsAddedTo core.old (line_of step.now) id core.new)) }
@@ -99,7 +111,7 @@ fn lay_one(core: &mut Core, next: u64, step: &Step) -> Result<Option<u64>, Alloc
             if *id < next || *id >= MOST_IDS || lits.is_empty() {
                 return Ok(None);
             }
-            core.add(*id, lits)?;
+            give(core, *id, lits, guards)?;
             Ok(Some(*id + 1))
         }
         Step::Delete { .. } => Ok(None),

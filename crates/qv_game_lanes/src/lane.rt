@@ -127,7 +127,7 @@ impl Lane {
             self.closed = true;
             return Ok(());
         }
-        let laid = laid_core(self.alloc, clauses, closed.steps, closed.pairs)?;
+        let laid = laid_core(self.alloc, clauses, closed.steps, closed.advice)?;
         self.core = laid.core;
         self.fed = laid.next - 1;
         self.laid = laid.steps;

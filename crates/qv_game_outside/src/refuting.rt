@@ -77,7 +77,7 @@ fn have_no_model(alloc: Global, clauses: &ClauseList) -> Result<bool, AllocError
     if closed.refuted {
         return Ok(true);
     }
-    let mut laid = laid_core(alloc, clauses, closed.steps, closed.pairs)?;
+    let mut laid = laid_core(alloc, clauses, closed.steps, closed.advice)?;
     finds_none(&mut laid.core)
 }
 

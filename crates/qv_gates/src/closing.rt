@@ -17,6 +17,27 @@ use qv_rup::Checker;
 use std::alloc::{AllocError, Global};
 use std::marker::Model;
 
+/// What a search may use. Nothing is claimed of it.
+#[derive(Drop)]
+pub struct Advice {
+    /// Pairs of literals that may be equal: they are where gates were simulated, in the order of the
+    /// gates. Behind each pair stand the inputs of the later gate.
+    pub pairs: Vec<Vec<Lit>>,
+    /// For the clause of each id a variable of it that stands in no clause which needs to be searched, or
+    /// 0. A clause with such a variable may be left aside.
+    pub guards: Vec<u32>,
+}
+
+impl Advice {
+    /// None.
+    pub fn none(alloc: Global) -> Advice {
+        Advice {
+            pairs: Vec::new(alloc),
+            guards: Vec::new(alloc),
+        }
+    }
+}
+
 /// A base of clauses, and steps behind it, each of which a checker accepted.
 #[derive(Drop)]
 pub struct Closure {
@@ -27,7 +48,7 @@ pub struct Closure {
     // What is said to stand for each variable. It's looked at when it's asked for.
     faces: Vec<Option<Face>>,
     kept: Vec<u64>,
-    pairs: Vec<Vec<Lit>>,
+    advice: Advice,
     // The ids of the base, the id behind them, and the variable behind those that it names.
     ids: Vec<u64>,
     first: u64,
@@ -52,7 +73,7 @@ struct Found {
     steps: Vec<Step>,
     faces: Vec<Option<Face>>,
     kept: Vec<u64>,
-    pairs: Vec<Vec<Lit>>,
+    advice: Advice,
 }
 
 impl Closure {
@@ -69,7 +90,7 @@ impl Closure {
             steps: Vec::new(alloc),
             faces: Vec::new(alloc),
             kept: Vec::new(alloc),
-            pairs: Vec::new(alloc),
+            advice: Advice::none(alloc),
             ids: Vec::new(alloc),
             first: 0,
             variables: 0,
@@ -109,11 +130,11 @@ impl Closure {
             steps,
             faces,
             kept,
-            pairs,
+            advice,
         } = self.find(rounds)?;
         self.faces = faces;
         self.kept = kept;
-        self.pairs = pairs;
+        self.advice = advice;
         self.take_all(steps);
         Ok(())
     }
@@ -126,13 +147,12 @@ impl Closure {
         &self.steps
     }
 
-    /// The steps, and pairs of literals that may be equal: they are where gates were simulated, in
-    /// the order of the gates. Nothing else is known of them.
-    pub fn finish(self) -> (Vec<Step>, Vec<Vec<Lit>>)
+    /// The steps, and what a search may use.
+    pub fn finish(self) -> (Vec<Step>, Advice)
         ensures steps { lines_of result.0.items ≡ self.steps }
     {
-        let Closure { steps, pairs, .. } = self;
-        (steps, pairs)
+        let Closure { steps, advice, .. } = self;
+        (steps, advice)
     }
 
     /// Whether a step adds a clause without literals. Then the base has no model.
@@ -190,12 +210,13 @@ impl Closure {
         let mut search = Search::new(self.alloc, &self.base, self.first);
         let kept = search.run(&self.ids, self.variables, rounds)?;
         let pairs = search.pairs(self.variables)?;
+        let guards = search.guards()?;
         let (steps, faces) = search.finish();
         Ok(Found {
             steps,
             faces,
             kept,
-            pairs,
+            advice: Advice { pairs, guards },
         })
     }
 

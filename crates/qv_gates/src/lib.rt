@@ -5,4 +5,4 @@ mod accepting;
 mod closing;
 pub mod laws;
 
-pub use closing::Closure;
+pub use closing::{Advice, Closure};

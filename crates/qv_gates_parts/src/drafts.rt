@@ -99,8 +99,8 @@ impl<'a> Draft<'a> {
         }
     }
 
-    // The id of the next step.
-    fn next(&self) -> u64 {
+    /// The id of the next step.
+    pub fn next(&self) -> u64 {
         self.first.wrapping_add(self.steps.len() as u64)
     }
 

@@ -10,6 +10,12 @@ use std::alloc::{AllocError, Global};
 // Clauses of no more literals are searched for equal and opposite ones.
 const FEW: usize = 64;
 
+// Literals of longer clauses stay as they are.
+const WIDE: usize = 24;
+
+// So many literals are looked at for one clause.
+const ROUNDS: u32 = 64;
+
 // Which variables occur, and the ids of clauses.
 #[derive(Drop)]
 struct Kept {
@@ -51,7 +57,36 @@ impl Search<'_> {
     pub(crate) fn keep(&mut self, variables: usize) -> Result<Vec<u64>, AllocError> {
         let mut kept = Kept::new(self.alloc);
         self.keep_all(variables, &mut kept)?;
-        Ok(kept.ids)
+        let Kept { occurs, ids } = kept;
+        self.occurs = occurs;
+        Ok(ids)
+    }
+
+    /// For the clause of each id, up to the last step's, a variable of it that stands in no clause
+    /// which is to be searched, or 0 where there is none.
+    pub fn guards(&self) -> Result<Vec<u32>, AllocError> {
+        let mut guards = Vec::new(self.alloc);
+        for id in 0..self.draft.next() {
+            guards.push(self.guard(id))?;
+        }
+        Ok(guards)
+    }
+
+    fn guard(&self, id: u64) -> u32 {
+        let Some(lits) = self.draft.clause(id) else {
+            return 0;
+        };
+        for lit in lits {
+            if !self.has(lit.variable()) {
+                return lit.variable();
+            }
+        }
+        0
+    }
+
+    /// Whether a variable stands in a clause that is to be searched.
+    pub(crate) fn has(&self, variable: u32) -> bool {
+        matches!(self.occurs.get(variable as usize), Some(true))
     }
 
     fn keep_all(&mut self, variables: usize, kept: &mut Kept) -> Result<(), AllocError> {
@@ -98,20 +133,24 @@ impl Search<'_> {
             None => return Ok(()),
         };
         if self.says_truth(&lits) {
+            kept.note_all(&lits);
             return kept.push(id);
         }
         self.keep_lits(id, &lits, kept)
     }
 
     fn keep_lits(&mut self, id: u64, lits: &[Lit], kept: &mut Kept) -> Result<(), AllocError> {
-        let Some(new) = self.over_roots(lits)? else {
+        let Some(mut new) = self.over_roots(lits)? else {
             return Ok(());
         };
-        kept.note_all(&new);
+        self.bring_faces(id, lits)?;
+        if !self.open_all(&mut new)? {
+            return Ok(());
+        }
         if new.as_slice() == lits {
+            kept.note_all(&new);
             return kept.push(id);
         }
-        self.bring_faces(id, lits)?;
         self.keep_proved(&new, kept)
     }
 
@@ -127,6 +166,7 @@ impl Search<'_> {
 
     // A clause that follows by unit propagation from what is near.
     fn keep_proved(&mut self, lits: &[Lit], kept: &mut Kept) -> Result<(), AllocError> {
+        kept.note_all(lits);
         match self.draft.prove(lits, &[])? {
             Some(id) => kept.push(id),
             None => Ok(()),
@@ -200,11 +240,14 @@ impl Search<'_> {
         lits: &[Lit],
         kept: &mut Kept,
     ) -> Result<(), AllocError> {
-        let Some(new) = self.over_roots(lits)? else {
+        let Some(mut new) = self.over_roots(lits)? else {
             return Ok(());
         };
-        kept.note_all(&new);
         self.bring_whole(node)?;
+        if self.is_known(node)? && !self.open_all(&mut new)? {
+            return Ok(());
+        }
+        kept.note_all(&new);
         match self.prove_near(&new)? {
             Some(id) => kept.push(id),
             None => Ok(()),
@@ -219,5 +262,82 @@ impl Search<'_> {
             kept.push(self.nodes.id(node, at))?;
         }
         Ok(())
+    }
+
+    // Whether the value of a gate's output is known.
+    fn is_known(&mut self, node: &Node) -> Result<bool, AllocError> {
+        let root = self.draft.root(node.output)?;
+        Ok(self.draft.constant(root).is_some())
+    }
+
+    // In place of each literal that is true only where one of some others is, as its gate says, come
+    // these. The gates' clauses are near then. Whether the clause isn't always true.
+    fn open_all(&mut self, lits: &mut Vec<Lit>) -> Result<bool, AllocError> {
+        let mut place = 0usize;
+        for _round in 0..ROUNDS {
+            let lit = match lits.get(place) {
+                Some(lit) if lits.len() <= WIDE => *lit,
+                _ => return Ok(true),
+            };
+            match self.cases(lit)? {
+                None => place = place.saturating_add(1),
+                Some((node, id)) => {
+                    if !self.open(lits, place, &node, id)? {
+                        return Ok(false);
+                    }
+                }
+            }
+        }
+        Ok(true)
+    }
+
+    // The gate of a literal, and the id of its clause that says of what others one is true where the
+    // literal is, if one says it.
+    fn cases(&mut self, lit: Lit) -> Result<Option<(Node, u64)>, AllocError> {
+        let Some(node) = self.nodes.of(lit.variable()) else {
+            return Ok(None);
+        };
+        let mut found = None;
+        for at in 0..node.count {
+            let id = self.nodes.id(&node, at);
+            let is_case = match self.draft.clause(id) {
+                Some(lits) => lits.contains(&lit.negated()),
+                None => false,
+            };
+            if is_case {
+                if found.is_some() {
+                    return Ok(None);
+                }
+                found = Some((node, id));
+            }
+        }
+        Ok(found)
+    }
+
+    // The literal at a place makes way for the others of a clause, or what stands for them.
+    fn open(
+        &mut self,
+        lits: &mut Vec<Lit>,
+        place: usize,
+        node: &Node,
+        id: u64,
+    ) -> Result<bool, AllocError> {
+        if place >= lits.len() {
+            return Ok(true);
+        }
+        let lit = lits.swap_remove(place);
+        self.draft.bring(id)?;
+        for variable in [node.form.a, node.form.b, node.form.c] {
+            self.draft.bring_face(variable)?;
+        }
+        let mut others = Vec::new(self.alloc);
+        if let Some(clause) = self.draft.clause(id) {
+            for other in clause {
+                if *other != lit.negated() {
+                    others.push(*other)?;
+                }
+            }
+        }
+        self.add_roots(&others, lits)
     }
 }

@@ -164,7 +164,7 @@ impl Search<'_> {
     ) -> Result<(), AllocError> {
         let mut firsts = HashMap::new(self.alloc);
         for variable in 1..variables {
-            if self.draft.face(variable).is_none() {
+            if self.draft.face(variable).is_none() && self.has(variable) {
                 self.pair(values, variable, &mut firsts, pairs)?;
             }
         }

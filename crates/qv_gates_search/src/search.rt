@@ -17,6 +17,8 @@ pub struct Search<'a> {
     seen: HashMap<Form, Lit>,
     // The inputs of the gates that are near.
     by: Vec<Lit>,
+    // Whether each variable stands in a clause that is to be searched.
+    pub(crate) occurs: Vec<bool>,
 }
 
 impl<'a> Search<'a> {
@@ -29,6 +31,7 @@ impl<'a> Search<'a> {
             leaves: Leaves::new(alloc),
             seen: HashMap::new(alloc),
             by: Vec::new(alloc),
+            occurs: Vec::new(alloc),
         }
     }
 

@@ -6,7 +6,7 @@ use Rattle.std.proofs.lemmas.List.Folds.{list_any-append}
 use Rattle.qv_cnf.specs.Derivation.{has_id}
 use Rattle.qv_cnf.specs.Listing.{Numbered, clause_named, without}
 use Rattle.qv_cnf.specs.Literal.{Literal, negated}
-use Rattle.qv_sat.proofs.Steps.{judged_named}
+use Rattle.qv_sat.proofs.Steps.{each_same, judged_named}
 use Rattle.qv_cnf.specs.Refutation.{judged_clause}
 
 -- two lists in which each id names the same clause
@@ -75,7 +75,7 @@ clause_named-without id ids (x ∷ xs) =
 
 -- a clause is judged by what the ids name
 pub judged_clause-same : (xs ys : List Numbered) (lits : List Literal) (hints : List ℤ) → NamesAlike xs ys → judged_clause xs lits hints ≡ judged_clause ys lits hints
-judged_clause-same xs ys lits hints h = judged_named xs ys h hints 1 (map negated lits)
+judged_clause-same xs ys lits hints h = judged_named xs ys hints (each_same xs ys h hints) 1 (map negated lits)
 
 -- an id that a filter leaves was there
 pub has_id-filter : (p : Numbered → Bool) (xs : List Numbered) (id : ℕ) → has_id (filter p xs) id ≡ true → has_id xs id ≡ true

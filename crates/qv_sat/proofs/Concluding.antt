@@ -16,36 +16,39 @@ use Rattle.qv_sat.specs.Answering.{IsFailed, IsFound, OnFound, OnUnsat, assignme
 use Rattle.qv_sat.specs.CoreState.{CoreState, GoesOn, HasNoConflict, IsNumbered, after_steps, live_after}
 use Rattle.qv_sat.specs.Deciding.{AnswersOn, IsFailedOn, IsFoundOn, IsWithin}
 use Rattle.qv_sat.specs.Holding.{IsHeld}
+use Rattle.qv_sat.specs.Naming.{AreAttached}
 use Rattle.qv_sat.specs.declared.outcomes.SatFault.{SatFault}
 use Rattle.qv_sat.specs.declared.outcomes.Outcome.{Outcome}
 use Rattle.qv_sat.specs.declared.outcomes.Outcome.TheVariants.{Found, Unsat}
 use Rattle.qv_sat.proofs.Alike.{judged_clause-same}
 use Rattle.qv_sat.proofs.Naming.{attached_model, front_all, model_attached, model_from, model_parts}
 use Rattle.qv_sat.proofs.Steps.{model_live, model_step}
+use Rattle.qv_sat.specs.declared.aside.Aside.{Aside}
 
 each_recursion : {X : Type 0} (P Q : X → Type 0) (xs : List X) → ((x : X) → P x → Q x) → AllByRecursion P xs → AllByRecursion Q xs
 each_recursion P Q [] f p = tt
 each_recursion P Q (x ∷ xs) f p = (f x p.0, each_recursion P Q xs f p.1)
 
-pub IsFound-held : (base : Listing) (steps : List LratLine) (on : TrailState) (top variables : ℕ) (refuted : Bool) (assumptions : List Literal) (values : List Bool) → IsHeld base steps on top variables refuted → All (IsWithin variables) assumptions → IsFoundOn on.clauses assumptions variables values → IsFound base.live assumptions values
-IsFound-held base steps on top variables refuted assumptions values h within f =
+pub IsFound-held : (base : Listing) (steps : List LratLine) (on : TrailState) (top variables : ℕ) (refuted : Bool) (aside : Aside) (assumptions : List Literal) (values : List Bool) → IsHeld base steps on top variables refuted aside → aside.ids.items ≡ [] → All (IsWithin variables) assumptions → IsFoundOn on.clauses assumptions variables values → IsFound base.live assumptions values
+IsFound-held base steps on top variables refuted aside assumptions values h none within f =
     let live = live_after base.live steps in
     let added = (after_steps no_steps steps).added in
     let long = f.long in
-    let own = front_all (λ c. clause_named c.id live ≡ Some c.lits) base.live added (recursion_from_All (λ c. clause_named c.id live ≡ Some c.lits) live h.attached.own) in
+    let attached : AreAttached [] live on.clauses = subst (λ (ids : List ℕ). AreAttached ids live on.clauses) none h.attached in
+    let own = front_all (λ c. clause_named c.id live ≡ Some c.lits) base.live added (recursion_from_All (λ c. clause_named c.id live ≡ Some c.lits) live attached.own) in
     record {
-      model = (model_parts (assignment values) base.live added (attached_model (assignment values) live on.clauses h.attached f.model)).0;
+      model = (model_parts (assignment values) base.live added (attached_model (assignment values) live on.clauses attached f.model)).0;
       assumed = f.assumed;
       valued = All-from_recursion (λ c. All (λ l. l.variable ≤ length values) c.lits) base.live
           (each_recursion (λ c. clause_named c.id live ≡ Some c.lits) (λ c. All (λ l. l.variable ≤ length values) c.lits) base.live
-          (λ c named. All-weaker (IsWithin variables) (λ l. l.variable ≤ length values) (λ l w. omega (arith, w.1)) c.lits (h.literals c.id c.lits (h.attached.named c.id ∙ named))) own);
+          (λ c named. All-weaker (IsWithin variables) (λ l. l.variable ≤ length values) (λ l w. omega (arith, w.1)) c.lits (h.literals c.id c.lits named)) own);
       valued_assumptions = All-weaker (IsWithin variables) (λ l. l.variable ≤ length values) (λ l w. omega (arith, w.1)) assumptions within;
     }
 
-pub IsFailed-held : (base : Listing) (steps : List LratLine) (on : TrailState) (top variables : ℕ) (refuted : Bool) (assumptions core : List Literal) → IsHeld base steps on top variables refuted → IsFailedOn on.clauses assumptions core → IsFailed base.live assumptions core
-IsFailed-held base steps on top variables refuted assumptions core h f = record {
+pub IsFailed-held : (base : Listing) (steps : List LratLine) (on : TrailState) (top variables : ℕ) (refuted : Bool) (aside : Aside) (assumptions core : List Literal) → IsHeld base steps on top variables refuted aside → IsFailedOn on.clauses assumptions core → IsFailed base.live assumptions core
+IsFailed-held base steps on top variables refuted aside assumptions core h f = record {
   among_assumptions = f.among_assumptions;
-  no_model = λ v m c. f.no_model v (model_attached v (live_after base.live steps) on.clauses h.attached (model_live v base.live steps h.core.derivation m)) c;
+  no_model = λ v m c. f.no_model v (model_attached v aside.ids.items (live_after base.live steps) on.clauses h.attached (model_live v base.live steps h.core.derivation m)) c;
 }
 
 -- where the clauses have a model, each addition has literals
@@ -61,25 +64,27 @@ add_some v base d [] h mb ma = refl
 add_some v base d (s ∷ steps) h mb ma = or_from (adds_none s) (list_any adds_none steps) (adds_some v base d s h.0 mb ma) (add_some v base (after_step d s) steps h.1 mb (model_step v base d s h.0 mb ma))
 
 -- a refuted core has no model
-pub IsFailed-refuted : (base : Listing) (steps : List LratLine) (on : TrailState) (top variables : ℕ) (refuted : Bool) (assumptions : List Literal) → IsHeld base steps on top variables refuted → refuted ≡ true → IsFailed base.live assumptions []
-IsFailed-refuted base steps on top variables refuted assumptions h now = record {
+pub IsFailed-refuted : (base : Listing) (steps : List LratLine) (on : TrailState) (top variables : ℕ) (refuted : Bool) (aside : Aside) (assumptions : List Literal) → IsHeld base steps on top variables refuted aside → refuted ≡ true → IsFailed base.live assumptions []
+IsFailed-refuted base steps on top variables refuted aside assumptions h now = record {
   among_assumptions = refl;
   no_model = λ v m c. false≢true (sym (add_some v base.live no_steps steps h.core.derivation m refl) ∙ h.refutes now);
 }
 
 -- an outcome
-pub found_held : (base : Listing) (steps : List LratLine) (on : TrailState) (top variables : ℕ) (refuted : Bool) (assumptions : List Literal) (outcome : Outcome) → IsHeld base steps on top variables refuted → All (IsWithin variables) assumptions → AnswersOn on.clauses assumptions variables outcome → OnFound outcome (IsFound base.live assumptions)
-found_held base steps on top variables refuted assumptions (Found values) h within a = IsFound-held base steps on top variables refuted assumptions values.items h within a
-found_held base steps on top variables refuted assumptions (Unsat core) h within a = tt
+pub found_held : (base : Listing) (steps : List LratLine) (on : TrailState) (top variables : ℕ) (refuted : Bool) (aside : Aside) (assumptions : List Literal) (outcome : Outcome) → IsHeld base steps on top variables refuted aside → aside.ids.items ≡ [] → All (IsWithin variables) assumptions → AnswersOn on.clauses assumptions variables outcome → OnFound outcome (IsFound base.live assumptions)
+found_held base steps on top variables refuted aside assumptions (Found values) h none within a = IsFound-held base steps on top variables refuted aside assumptions values.items h none within a
+found_held base steps on top variables refuted aside assumptions (Unsat core) h none within a = tt
 
-pub unsat_held : (base : Listing) (steps : List LratLine) (on : TrailState) (top variables : ℕ) (refuted : Bool) (assumptions : List Literal) (outcome : Outcome) → IsHeld base steps on top variables refuted → AnswersOn on.clauses assumptions variables outcome → OnUnsat outcome (IsFailed base.live assumptions)
-unsat_held base steps on top variables refuted assumptions (Found values) h a = tt
-unsat_held base steps on top variables refuted assumptions (Unsat core) h a = IsFailed-held base steps on top variables refuted assumptions core.items h a
+pub unsat_held : (base : Listing) (steps : List LratLine) (on : TrailState) (top variables : ℕ) (refuted : Bool) (aside : Aside) (assumptions : List Literal) (outcome : Outcome) → IsHeld base steps on top variables refuted aside → AnswersOn on.clauses assumptions variables outcome → OnUnsat outcome (IsFailed base.live assumptions)
+unsat_held base steps on top variables refuted aside assumptions (Found values) h a = tt
+unsat_held base steps on top variables refuted aside assumptions (Unsat core) h a = IsFailed-held base steps on top variables refuted aside assumptions core.items h a
 
 -- alone the clauses have no conflict where an assumption failed
-pub conflict_held : (base : Listing) (steps : List LratLine) (on : TrailState) (top variables : ℕ) (refuted : Bool) (assumptions : List Literal) (outcome : Outcome) → IsHeld base steps on top variables refuted → AnswersOn on.clauses assumptions variables outcome → OnUnsat outcome (λ core. core ≢ [] → HasNoConflict record { base = base.live; steps = steps; top = top })
-conflict_held base steps on top variables refuted assumptions (Found values) h a = tt
-conflict_held base steps on top variables refuted assumptions (Unsat core) h a = λ some hints r. a.no_conflict hints (judged_clause-same on.clauses (live_after base.live steps) [] hints h.attached.named ∙ r)
+pub conflict_held : (base : Listing) (steps : List LratLine) (on : TrailState) (top variables : ℕ) (refuted : Bool) (aside : Aside) (assumptions : List Literal) (outcome : Outcome) → IsHeld base steps on top variables refuted aside → aside.ids.items ≡ [] → AnswersOn on.clauses assumptions variables outcome → OnUnsat outcome (λ core. core ≢ [] → HasNoConflict record { base = base.live; steps = steps; top = top })
+conflict_held base steps on top variables refuted aside assumptions (Found values) h none a = tt
+conflict_held base steps on top variables refuted aside assumptions (Unsat core) h none a =
+    let attached : AreAttached [] (live_after base.live steps) on.clauses = subst (λ (ids : List ℕ). AreAttached ids (live_after base.live steps) on.clauses) none h.attached in
+    λ some hints r. a.no_conflict hints (judged_clause-same on.clauses (live_after base.live steps) [] hints attached.named ∙ r)
 
 -- steps behind steps
 numbered-append : (top mid last : ℕ) (xs ys : List LratLine) → IsNumbered top xs mid → IsNumbered mid ys last → IsNumbered top (xs ++ ys) last

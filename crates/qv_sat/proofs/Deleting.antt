@@ -1,5 +1,5 @@
 -- Clauses that are taken away.
-use Rattle.std.proofs.Common.{◌≡◌, ◌≢◌, ℕ, suc, ◌+◌, ◌-◌, ◌<◌, true, false, not, List, [], ◌∷◌, ◌++◌, length, take, get_or, Option, Some, None, All, eqb, refl, sym, ◌∙◌, ap, subst, arith, inl, inr}
+use Rattle.std.proofs.Common.{◌≡◌, ◌≢◌, ℕ, suc, ◌+◌, ◌-◌, ◌<◌, Bool, true, false, not, List, [], ◌∷◌, ◌++◌, length, take, get_or, Option, Some, None, All, eqb, refl, sym, ◌∙◌, ap, subst, arith, inl, inr}
 use Rattle.std.specs.Prelude.{IsSome, if◌then◌else◌}
 use Rattle.std.proofs.lemmas.List.{take_more}
 use Rattle.std.specs.List.{list_any, slice_get, AllByRecursion}
@@ -16,6 +16,7 @@ use Rattle.qv_watch.specs.declared.propagation.Propagated.{Propagated}
 use Rattle.qv_watch.proofs.Growing.{forced_literal, once_grown}
 use Rattle.qv_cnf.specs.Literal.{Literal}
 use Rattle.qv_sat.specs.Deciding.{AllWithin}
+use Rattle.qv_sat.specs.Aside.{is_listed}
 use Rattle.qv_sat.specs.Naming.{AreAttached}
 use Rattle.qv_sat.proofs.Depending.{forcing_clause}
 use Rattle.qv_sat.proofs.Entries.{reason_at}
@@ -99,18 +100,27 @@ own_one id whole (c ∷ cs) h = elim (cases_Bool (eqb c.id id)) [
   | inr stays ↦ rw stays ((named_one id c.id whole ∙ rw stays h.0), own_one id whole cs h.1)
 ]
 
-attached_one : (id : ℕ) (live attached : List Numbered) → AreAttached live attached → AreAttached (without (id ∷ []) live) (without (id ∷ []) attached)
-attached_one id live attached a = record {
-  named = λ k. named_one id k attached ∙ ap (λ o. if eqb k id then None else o) (a.named k) ∙ sym (named_one id k live);
+both_none : (a b : Bool) (o : Option (List Literal)) → (if a then None else (if b then None else o)) ≡ (if b then None else (if a then None else o))
+both_none true true o = refl
+both_none true false o = refl
+both_none false true o = refl
+both_none false false o = refl
+
+attached_one : (id : ℕ) (aside : List ℕ) (live attached : List Numbered) → AreAttached aside live attached → AreAttached aside (without (id ∷ []) live) (without (id ∷ []) attached)
+attached_one id aside live attached a = record {
+  named = λ k.
+      named_one id k attached ∙ ap (λ (o : Option (List Literal)). if eqb k id then None else o) (a.named k)
+      ∙ both_none (eqb k id) (is_listed k aside) (clause_named k live)
+      ∙ ap (λ (o : Option (List Literal)). if is_listed k aside then None else o) (sym (named_one id k live));
   own = All-from_recursion (λ c. clause_named c.id (without (id ∷ []) live) ≡ Some c.lits) (without (id ∷ []) live) (own_one id live live (recursion_from_All (λ c. clause_named c.id live ≡ Some c.lits) live a.own));
 }
 
-pub AreAttached-without : (ids : List ℕ) (live attached : List Numbered) → AreAttached live attached → AreAttached (without ids live) (without ids attached)
-AreAttached-without [] live attached a = subst (λ (xs : List Numbered). AreAttached xs (without [] attached)) (sym (without-none live)) (subst (AreAttached live) (sym (without-none attached)) a)
-AreAttached-without (id ∷ ids) live attached a =
-    subst (λ (xs : List Numbered). AreAttached xs (without (id ∷ ids) attached)) (sym (without-cons id ids live))
-    (subst (AreAttached (without ids (without (id ∷ []) live))) (sym (without-cons id ids attached))
-    (AreAttached-without ids (without (id ∷ []) live) (without (id ∷ []) attached) (attached_one id live attached a)))
+pub AreAttached-without : (ids aside : List ℕ) (live attached : List Numbered) → AreAttached aside live attached → AreAttached aside (without ids live) (without ids attached)
+AreAttached-without [] aside live attached a = subst (λ (xs : List Numbered). AreAttached aside xs (without [] attached)) (sym (without-none live)) (subst (AreAttached aside live) (sym (without-none attached)) a)
+AreAttached-without (id ∷ ids) aside live attached a =
+    subst (λ (xs : List Numbered). AreAttached aside xs (without (id ∷ ids) attached)) (sym (without-cons id ids live))
+    (subst (AreAttached aside (without ids (without (id ∷ []) live))) (sym (without-cons id ids attached))
+    (AreAttached-without ids aside (without (id ∷ []) live) (without (id ∷ []) attached) (attached_one id aside live attached a)))
 
 -- an addition's clause is none of the base's
 pub named_behind : (id : ℕ) (xs ys : List Numbered) → has_id xs id ≡ false → clause_named id (xs ++ ys) ≡ clause_named id ys

@@ -12,6 +12,7 @@ pub mod Feeding
 pub mod Fronts
 pub mod Jumping
 pub mod Learning
+pub mod LeftAside
 pub mod Naming
 pub mod Ordered
 pub mod Picking

@@ -1,5 +1,5 @@
 -- Clauses under their ids.
-use Rattle.std.proofs.Common.{◌≡◌, ◌≢◌, ℕ, ◌<◌, ◌≤◌, Bool, true, false, ◌&&◌, List, [], ◌∷◌, ◌++◌, filter, Some, None, All, eqb, refl, sym, ◌∙◌, ap, subst, arith, inl, inr}
+use Rattle.std.proofs.Common.{◌≡◌, ◌≢◌, ℕ, ◌<◌, ◌≤◌, Bool, true, false, ◌&&◌, List, [], ◌∷◌, ◌++◌, filter, Option, Some, None, All, eqb, refl, sym, ◌∙◌, ap, subst, arith, inl, inr}
 use Rattle.std.specs.Prelude.{if◌then◌else◌}
 use Rattle.std.specs.List.{list_all, AllByRecursion}
 use Rattle.std.proofs.lemmas.Bool.{cases_Bool, cases_eq, ne_eqb, eq-eqb, and_parts, and_from, or_from, or_left, or_right}
@@ -12,6 +12,7 @@ use Rattle.qv_cnf.specs.Listing.{Numbered, clause_named, clauses_of, without}
 use Rattle.qv_cnf.specs.Literal.{Literal}
 use Rattle.qv_cnf.specs.Truth.{IsModel, clause_value}
 use Rattle.qv_sat.specs.Deciding.{MakesNamedTrue}
+use Rattle.qv_sat.specs.Aside.{is_listed}
 use Rattle.qv_sat.specs.Naming.{AreAttached}
 
 -- one more element somewhere
@@ -63,19 +64,21 @@ pub fresh_named : (bound id : ℕ) (clauses : List Numbered) → AllByRecursion 
 fresh_named bound id [] below h = refl
 fresh_named bound id (c ∷ cs) below h = rw (ne_eqb c.id id (let b = below.0 in omega arith)) (fresh_named bound id cs below.1 h)
 
-front_none : (id : ℕ) (xs ys : List Numbered) → clause_named id (xs ++ ys) ≡ None → clause_named id xs ≡ None
+pub front_none : (id : ℕ) (xs ys : List Numbered) → clause_named id (xs ++ ys) ≡ None → clause_named id xs ≡ None
 front_none id [] ys h = refl
 front_none id (x ∷ xs) ys h = let parts = named-tail id x (xs ++ ys) h in rw (ne_eqb x.id id parts.0) (front_none id xs ys parts.1)
 
 -- one clause more is live and attached
-pub AreAttached-insert : (xs ys attached : List Numbered) (c : Numbered) → clause_named c.id (xs ++ ys) ≡ None → AreAttached (xs ++ ys) attached → AreAttached (xs ++ c ∷ ys) (attached ++ c ∷ [])
-AreAttached-insert xs ys attached c fresh a =
+pub AreAttached-insert : (aside : List ℕ) (xs ys attached : List Numbered) (c : Numbered) → is_listed c.id aside ≡ false → clause_named c.id (xs ++ ys) ≡ None → AreAttached aside (xs ++ ys) attached → AreAttached aside (xs ++ c ∷ ys) (attached ++ c ∷ [])
+AreAttached-insert aside xs ys attached c inside fresh a =
     let fresh_front : clause_named c.id xs ≡ None = front_none c.id xs ys fresh in
-    let fresh_attached : clause_named c.id attached ≡ None = a.named c.id ∙ fresh in
+    let fresh_attached : clause_named c.id attached ≡ None = a.named c.id ∙ rw inside fresh in
     record {
       named = λ id. elim (cases_eq c.id id) [
-        | inl same ↦ named-same attached [] c id fresh_attached same ∙ sym (named-same xs ys c id fresh_front same)
-        | inr other ↦ named-other attached [] c id fresh_attached other ∙ ap (clause_named id) (append_nil attached) ∙ a.named id ∙ sym (named-other xs ys c id fresh_front other)
+        | inl same ↦
+            let apart : is_listed id aside ≡ false = ap (λ k. is_listed k aside) (sym same) ∙ inside in
+            named-same attached [] c id fresh_attached same ∙ rw apart (sym (named-same xs ys c id fresh_front same))
+        | inr other ↦ named-other attached [] c id fresh_attached other ∙ ap (clause_named id) (append_nil attached) ∙ a.named id ∙ ap (λ (o : Option (List Literal)). if is_listed id aside then None else o) (sym (named-other xs ys c id fresh_front other))
       ];
       own = All-insert (λ d. clause_named d.id (xs ++ c ∷ ys) ≡ Some d.lits) xs ys c
           (All-weaker (λ d. clause_named d.id (xs ++ ys) ≡ Some d.lits) (λ d. clause_named d.id (xs ++ c ∷ ys) ≡ Some d.lits)
@@ -130,10 +133,13 @@ model_by v [] h = refl
 model_by v (c ∷ cs) h = and_from (clause_value v c.lits) (list_all (clause_value v) (clauses_of cs)) h.0 (model_by v cs h.1)
 
 -- the models of the live clauses are those of the attached ones
-pub model_attached : (v : ℕ → Bool) (live attached : List Numbered) → AreAttached live attached → IsModel v (clauses_of live) → MakesNamedTrue v attached
-model_attached v live attached a m id lits h = named_true v live m id lits (sym (a.named id) ∙ h)
+pub model_attached : (v : ℕ → Bool) (aside : List ℕ) (live attached : List Numbered) → AreAttached aside live attached → IsModel v (clauses_of live) → MakesNamedTrue v attached
+model_attached v aside live attached a m id lits h = elim (cases_Bool (is_listed id aside)) [
+  | inl out ↦ absurd (none-some lits (let none : clause_named id attached ≡ None = a.named id ∙ rw out refl in sym none ∙ h))
+  | inr inside ↦ let same : clause_named id attached ≡ clause_named id live = a.named id ∙ rw inside refl in named_true v live m id lits (sym same ∙ h)
+]
 
-pub attached_model : (v : ℕ → Bool) (live attached : List Numbered) → AreAttached live attached → MakesNamedTrue v attached → IsModel v (clauses_of live)
+pub attached_model : (v : ℕ → Bool) (live attached : List Numbered) → AreAttached [] live attached → MakesNamedTrue v attached → IsModel v (clauses_of live)
 attached_model v live attached a m =
     model_by v live (recursion_from_All (λ c. clause_value v c.lits ≡ true) live
     (All-weaker (λ c. clause_named c.id live ≡ Some c.lits) (λ c. clause_value v c.lits ≡ true) (λ c h. m c.id c.lits (a.named c.id ∙ h)) live a.own))

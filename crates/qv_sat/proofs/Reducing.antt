@@ -13,20 +13,23 @@ use Rattle.qv_cnf.specs.Refutation.{adds_none, has_none}
 use Rattle.qv_watch.specs.TrailState.{TrailState}
 use Rattle.qv_sat.specs.CoreState.{after_steps, live_after}
 use Rattle.qv_sat.specs.Reducing.{AreIdle, IsIdle}
+use Rattle.qv_sat.specs.Deciding.{AllWithin}
 use Rattle.qv_sat.specs.Holding.{IsHeld}
 use Rattle.qv_sat.specs.Naming.{AllBelow, AreAttached}
+use Rattle.qv_sat.proofs.LeftAside.{attached_same}
 use Rattle.qv_sat.proofs.Decisions.{list_all-from}
 use Rattle.qv_sat.proofs.Deleting.{absent_all, named_behind, named_has, without-append, AllWithin-without, AreAttached-without}
 use Rattle.qv_sat.proofs.Ordered.{IsOrdered-numbered}
 use Rattle.qv_sat.proofs.Steps.{after_steps-push, DerivesFrom-push, EachHinted-push}
+use Rattle.qv_sat.specs.declared.aside.Aside.{Aside}
 
-module _ (base : Listing) (steps : List LratLine) (t : TrailState) (top variables : ℕ) (refuted : Bool) (h : IsHeld base steps t top variables refuted) where
+module _ (base : Listing) (steps : List LratLine) (t : TrailState) (top variables : ℕ) (refuted : Bool) (aside : Aside) (h : IsHeld base steps t top variables refuted aside) where
   abbrev d : Deriving
   d = after_steps no_steps steps
 
   is_added : (id : ℕ) → IsIdle base.live t id → has_id d.added id ≡ true
   is_added id i =
-      let live : IsSome (clause_named id (live_after base.live steps)) = subst (λ (o : Option (List Literal)). IsSome o) (h.attached.named id) i.attached in
+      let live : IsSome (clause_named id (live_after base.live steps)) = subst (λ (o : Option (List Literal)). IsSome o) (attached_same aside.ids.items (live_after base.live steps) t.clauses id h.attached i.attached) i.attached in
       named_has id d.added (subst (λ (o : Option (List Literal)). IsSome o) (named_behind id base.live d.added i.learnt) live)
 
   are_added : (ids : List ℕ) → AreIdle base.live t ids → AllByRecursion (λ id. has_id d.added id ≡ true) ids
@@ -52,7 +55,7 @@ module _ (base : Listing) (steps : List LratLine) (t : TrailState) (top variable
       ∙ ap (λ (xs : List Numbered). xs ++ without ids d.added) (sym (absent ids a))
       ∙ sym (without-append ids base.live d.added)
 
-  pub IsHeld-reduce : (t' : TrailState) (ids : List ℕ) → AreIdle base.live t ids → IsDerivation base.live (steps ++ Deletion top ids ∷ []) → t'.room ≡ t.room → t'.clauses ≡ without ids t.clauses → IsHeld base (steps ++ Deletion top ids ∷ []) t' top variables refuted
+  pub IsHeld-reduce : (t' : TrailState) (ids : List ℕ) → AreIdle base.live t ids → IsDerivation base.live (steps ++ Deletion top ids ∷ []) → t'.room ≡ t.room → t'.clauses ≡ without ids t.clauses → IsHeld base (steps ++ Deletion top ids ∷ []) t' top variables refuted aside
   IsHeld-reduce t' ids a derivation room clauses =
       let step : LratLine = Deletion top ids in
       let now = live ids a in
@@ -65,8 +68,9 @@ module _ (base : Listing) (steps : List LratLine) (t : TrailState) (top variable
         next_step = let e : (after_steps no_steps (steps ++ step ∷ [])).next ≡ d.next = ap (λ (x : Deriving). x.next) (after ids) in let n = h.next_step in omega arith;
         few = h.few;
         below = subst (AllBelow (top + 1)) (sym now) (All-filter _ (λ c. c.id < top + 1) (live_after base.live steps) h.below);
-        attached = subst (λ (xs : List Numbered). AreAttached xs t'.clauses) (sym now) (subst (AreAttached (without ids (live_after base.live steps))) (sym clauses) (AreAttached-without ids (live_after base.live steps) t.clauses h.attached));
-        literals = λ k lits named. AllWithin-without variables ids t.clauses h.literals k lits (sym (ap (clause_named k) clauses) ∙ named);
+        attached = subst (λ (xs : List Numbered). AreAttached aside.ids.items xs t'.clauses) (sym now) (subst (AreAttached aside.ids.items (without ids (live_after base.live steps))) (sym clauses) (AreAttached-without ids aside.ids.items (live_after base.live steps) t.clauses h.attached));
+        are_aside = h.are_aside;
+        literals = subst (AllWithin variables) (sym now) (AllWithin-without variables ids (live_after base.live steps) h.literals);
         filled = λ going. subst (All (λ (c : Numbered). has_none c.lits ≡ false)) (sym now) (All-filter _ (λ c. has_none c.lits ≡ false) (live_after base.live steps) (h.filled going));
         refutes = λ is. list_any-append adds_none steps (step ∷ []) ∙ or_left (list_any adds_none steps) (false || false) (h.refutes is);
       }

@@ -1,6 +1,6 @@
 -- Derivations that go on, and over bases that grow.
 use Rattle.std.proofs.Common.{◌≡◌, ℕ, ◌+◌, ◌≤◌, ℤ, pos, negsuc, Bool, true, false, not, ◌||◌, List, [], ◌∷◌, ◌++◌, filter, map, Option, eqb, ltb, refl, sym, ◌∙◌, ap, subst, arith}
-use Rattle.std.specs.List.{list_all, list_any}
+use Rattle.std.specs.List.{list_all, list_any, AllByRecursion}
 use Rattle.std.proofs.lemmas.Bool.{le-ltb, ne_eqb, or_from, and_from}
 use Rattle.std.proofs.lemmas.List.Elements.{filter-append}
 use Rattle.std.proofs.lemmas.List.Folds.{list_any-append}
@@ -78,25 +78,55 @@ by_reading Falsified fails f g h = refl
 by_reading (Forced l) fails f g h = h l
 by_reading Useless fails f g h = refl
 
-pub judged_named : (a b : List Numbered) → ((id : ℕ) → clause_named id a ≡ clause_named id b) → (hints : List ℤ) (position : ℕ) (set : List Literal) → judged_from a hints position set ≡ judged_from b hints position set
-judged_named a b same [] position set = refl
-judged_named a b same (negsuc n ∷ hints) position set = refl
-judged_named a b same (pos id ∷ hints) position set =
-    ap (λ (o : Option (List Literal)). judged_by (hint_reading set o) (FailsAt position) (λ l. judged_from a hints (position + 1) (l ∷ set))) (same id)
-    ∙ by_reading (hint_reading set (clause_named id b)) (FailsAt position) (λ l. judged_from a hints (position + 1) (l ∷ set)) (λ l. judged_from b hints (position + 1) (l ∷ set)) (λ l. judged_named a b same hints (position + 1) (l ∷ set))
+abbrev pub NamesSame : List Numbered → List Numbered → ℤ → Type 0
+NamesSame a b (pos id) = clause_named id a ≡ clause_named id b
+NamesSame a b (negsuc n) = Unit {0}
 
-any_same : {X : Type 0} (f g : X → Bool) (xs : List X) → ((x : X) → f x ≡ g x) → list_any f xs ≡ list_any g xs
+pub each_same : (a b : List Numbered) → ((id : ℕ) → clause_named id a ≡ clause_named id b) → (hints : List ℤ) → AllByRecursion (NamesSame a b) hints
+each_same a b same [] = tt
+each_same a b same (pos id ∷ hints) = (same id, each_same a b same hints)
+each_same a b same (negsuc n ∷ hints) = (tt, each_same a b same hints)
+
+pub judged_named : (a b : List Numbered) (hints : List ℤ) → AllByRecursion (NamesSame a b) hints → (position : ℕ) (set : List Literal) → judged_from a hints position set ≡ judged_from b hints position set
+judged_named a b [] same position set = refl
+judged_named a b (negsuc n ∷ hints) same position set = refl
+judged_named a b (pos id ∷ hints) same position set =
+    ap (λ (o : Option (List Literal)). judged_by (hint_reading set o) (FailsAt position) (λ l. judged_from a hints (position + 1) (l ∷ set))) same.0
+    ∙ by_reading (hint_reading set (clause_named id b)) (FailsAt position) (λ l. judged_from a hints (position + 1) (l ∷ set)) (λ l. judged_from b hints (position + 1) (l ∷ set)) (λ l. judged_named a b hints same.1 (position + 1) (l ∷ set))
+
+any_same : {X : Type 0} (f g : X → Bool) (xs : List X) → AllByRecursion (λ x. f x ≡ g x) xs → list_any f xs ≡ list_any g xs
 any_same f g [] h = refl
-any_same f g (x ∷ xs) h = ap (λ (b : Bool). b || list_any f xs) (h x) ∙ ap (λ (b : Bool). g x || b) (any_same f g xs h)
+any_same f g (x ∷ xs) h = ap (λ (b : Bool). b || list_any f xs) h.0 ∙ ap (λ (b : Bool). g x || b) (any_same f g xs h.1)
+
+each_of : {X : Type 0} (P : X → Type 0) (xs : List X) → ((x : X) → P x) → AllByRecursion P xs
+each_of P [] h = tt
+each_of P (x ∷ xs) h = (h x, each_of P xs h)
+
+each_weaker : {X : Type 0} (P Q : X → Type 0) (xs : List X) → ((x : X) → P x → Q x) → AllByRecursion P xs → AllByRecursion Q xs
+each_weaker P Q [] f h = tt
+each_weaker P Q (x ∷ xs) f h = (f x h.0, each_weaker P Q xs f h.1)
+
+-- what holds of each element holds of each in a list that has one fewer
+with_first : {X : Type 0} (P : X → Type 0) (x : X) (lists : List (List X)) → P x → AllByRecursion (AllByRecursion P) lists → AllByRecursion (AllByRecursion P) (map (λ fewer. x ∷ fewer) lists)
+with_first P x [] own h = tt
+with_first P x (ys ∷ lists) own h = ((own, h.0), with_first P x lists own h.1)
+
+each_fewer : {X : Type 0} (P : X → Type 0) (xs : List X) → AllByRecursion P xs → AllByRecursion (AllByRecursion P) (one_fewer xs)
+each_fewer P [] h = tt
+each_fewer P (x ∷ xs) h = (h.1, with_first P x (one_fewer xs) h.0 (each_fewer P xs h.1))
 
 -- and so is what it can do without
-pub spares_literal-named : (a b : List Numbered) → ((id : ℕ) → clause_named id a ≡ clause_named id b) → (lits : List Literal) (hints : List ℤ) → spares_literal a lits hints ≡ spares_literal b lits hints
-spares_literal-named a b same lits hints =
-    any_same (λ fewer. accepts (judged_clause a fewer hints)) (λ fewer. accepts (judged_clause b fewer hints)) (one_fewer lits) (λ fewer. ap accepts (judged_named a b same hints 1 (map negated fewer)))
+pub spares_literal-named : (a b : List Numbered) (lits : List Literal) (hints : List ℤ) → AllByRecursion (NamesSame a b) hints → spares_literal a lits hints ≡ spares_literal b lits hints
+spares_literal-named a b lits hints same =
+    let f : List Literal → Bool = λ fewer. accepts (judged_clause a fewer hints) in
+    let g : List Literal → Bool = λ fewer. accepts (judged_clause b fewer hints) in
+    any_same f g (one_fewer lits) (each_of (λ fewer. f fewer ≡ g fewer) (one_fewer lits) (λ fewer. ap accepts (judged_named a b hints same 1 (map negated fewer))))
 
-pub spares_hint-named : (a b : List Numbered) → ((id : ℕ) → clause_named id a ≡ clause_named id b) → (lits : List Literal) (hints : List ℤ) → spares_hint a lits hints ≡ spares_hint b lits hints
-spares_hint-named a b same lits hints =
-    any_same (λ fewer. accepts (judged_clause a lits fewer)) (λ fewer. accepts (judged_clause b lits fewer)) (one_fewer hints) (λ fewer. ap accepts (judged_named a b same fewer 1 (map negated lits)))
+pub spares_hint-named : (a b : List Numbered) (lits : List Literal) (hints : List ℤ) → AllByRecursion (NamesSame a b) hints → spares_hint a lits hints ≡ spares_hint b lits hints
+spares_hint-named a b lits hints same =
+    let f : List ℤ → Bool = λ fewer. accepts (judged_clause a lits fewer) in
+    let g : List ℤ → Bool = λ fewer. accepts (judged_clause b lits fewer) in
+    any_same f g (one_fewer hints) (each_weaker (AllByRecursion (NamesSame a b)) (λ fewer. f fewer ≡ g fewer) (one_fewer hints) (λ fewer each. ap accepts (judged_named a b fewer each 1 (map negated lits))) (each_fewer (NamesSame a b) hints same))
 
 -- a model of the base makes the additions true
 pub model_step : (v : ℕ → Bool) (base : List Numbered) (d : Deriving) (s : LratLine) → MayStep base d s → IsModel v (clauses_of base) → IsModel v (clauses_of d.added) → IsModel v (clauses_of (after_step d s).added)

@@ -14,6 +14,7 @@ use Rattle.qv_sat.specs.CoreState.{CoreState, GoesOn, IsNumbered}
 use Rattle.qv_sat.specs.Ordering.{IsOrdered}
 use Rattle.qv_sat.proofs.Accepting.{IsAccepted-from_derivation, IsRefuted-from_empty}
 use Rattle.qv_sat.proofs.Feeding.{with_clauses-live, with_clauses-refuted}
+use Rattle.qv_sat.specs.declared.aside.Aside.{Aside}
 
 keeps_all : (p : Numbered → Bool) (cs : List Numbered) → list_all p cs ≡ true → filter p cs ≡ cs
 keeps_all p [] h = refl
@@ -95,5 +96,5 @@ ComesFirst-goes_on old new o g first =
     subst (λ base. ComesFirst base new.steps) (sym g.base) (subst (ComesFirst old.base) (sym g.steps) on)
 
 -- a refuted core whose clauses come first
-pub Refutes-held : (base : Listing) (steps : List LratLine) (on : TrailState) (top variables : ℕ) (refuted : Bool) → IsHeld base steps on top variables refuted → ComesFirst base.live steps → refuted ≡ true → Refutes base.live steps
-Refutes-held base steps on top variables refuted h first now = Refutes-from_whole base.live steps first (IsAccepted-from_derivation base.live steps top h.core.derivation h.ordered) (IsRefuted-from_empty base.live steps (h.refutes now))
+pub Refutes-held : (base : Listing) (steps : List LratLine) (on : TrailState) (top variables : ℕ) (refuted : Bool) (aside : Aside) → IsHeld base steps on top variables refuted aside → ComesFirst base.live steps → refuted ≡ true → Refutes base.live steps
+Refutes-held base steps on top variables refuted aside h first now = Refutes-from_whole base.live steps first (IsAccepted-from_derivation base.live steps top h.core.derivation h.ordered) (IsRefuted-from_empty base.live steps (h.refutes now))

@@ -6,16 +6,19 @@ use Rattle.qv_cnf.specs.Listing.{Listing, next_id}
 use Rattle.qv_cnf.specs.LratLine.{LratLine, lines_of}
 use Rattle.qv_cnf.specs.Refutation.{adds_none, has_none}
 use Rattle.qv_watch.specs.TrailState.{TrailState}
+use Rattle.qv_sat.specs.declared.aside.Aside.{Aside}
 use Rattle.qv_sat.specs.declared.solver.Solver.{Solver}
+use Rattle.qv_sat.specs.Aside.{AreAside}
 use Rattle.qv_sat.specs.CoreState.{CoreState, IsCore, after_steps, live_after}
 use Rattle.qv_sat.specs.Choosing.{Covers}
 use Rattle.qv_sat.specs.Deciding.{AllWithin}
 use Rattle.qv_sat.specs.Naming.{AllBelow, AreAttached}
 use Rattle.qv_sat.specs.Ordering.{IsOrdered}
 
--- of the base, the steps, the trail on which all live clauses are attached, the greatest id, the
--- greatest variable, and whether a clause without literals was learnt
-pub record IsHeld (base : Listing) (steps : List LratLine) (on : TrailState) (top variables : ℕ) (refuted : Bool) : Type 0 where
+-- of the base, the steps, the trail on which all live clauses are attached but those left aside, the
+-- greatest id, the greatest variable, whether a clause without literals was learnt, and what is left
+-- aside
+pub record IsHeld (base : Listing) (steps : List LratLine) (on : TrailState) (top variables : ℕ) (refuted : Bool) (aside : Aside) : Type 0 where
   pub ordered : IsOrdered base.live steps top
   pub room : on.room ≡ variables
   pub most : variables ≤ 2 ^ 30
@@ -24,13 +27,14 @@ pub record IsHeld (base : Listing) (steps : List LratLine) (on : TrailState) (to
   pub next_step : (after_steps no_steps steps).next ≤ top + 1
   pub few : top < 2 ^ 62
   pub below : AllBelow (top + 1) (live_after base.live steps)
-  pub attached : AreAttached (live_after base.live steps) on.clauses
-  pub literals : AllWithin variables on.clauses
+  pub attached : AreAttached aside.ids.items (live_after base.live steps) on.clauses
+  pub are_aside : AreAside base.live aside
+  pub literals : AllWithin variables (live_after base.live steps)
   pub filled : refuted ≡ false → All (λ c. has_none c.lits ≡ false) (live_after base.live steps)
   pub refutes : refuted ≡ true → list_any adds_none steps ≡ true
 
 abbrev pub Held : Solver → Type 0
-Held s = IsHeld s.base (lines_of s.steps.items) s.trail s.top s.variables s.refuted
+Held s = IsHeld s.base (lines_of s.steps.items) s.trail s.top s.variables s.refuted s.aside
 
 -- what contracts see of it
 abbrev pub core_of : Solver → CoreState

@@ -5,6 +5,7 @@ pub mod Feeding
 pub mod Laws
 pub mod Ordering
 -- the inside
+pub mod Aside
 pub mod Choosing
 pub mod Counting
 pub mod Deciding

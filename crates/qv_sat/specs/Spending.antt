@@ -1,5 +1,5 @@
 -- A step of a core that may charge a budget.
-use Rattle.std.specs.Prelude.{◌≡◌, ◌+◌, ◌-◌, ◌<◌, ◌^◌, false, Result, Err}
+use Rattle.std.specs.Prelude.{◌≡◌, ◌+◌, ◌-◌, ◌<◌, ◌^◌, ℕ, false, length, Result, Err}
 use Rattle.qv_cnf.specs.Derivation.{additions}
 use Rattle.qv_cnf.specs.LratLine.{lines_of}
 use Rattle.qv_cnf.specs.declared.budgets.Budget.{Ghosts}
@@ -27,3 +27,7 @@ pub record Spends {B Answer : Type 0} (budget : Ghosts B) (before after : B) (ol
   pub may : budget.may_charge after new.base.live (lines_of new.steps.items)
   pub spent : result ≡ Err Spent → budget.count after ≡ budget.limit after
   pub offered : result ≡ Err Spent → MayGoOn (core_of new)
+
+-- how many conflicts may still be charged, and how many clauses are left aside
+abbrev pub left : {B : Type 0} → Ghosts B → B → Solver → ℕ
+left budget state s = (budget.limit state - budget.count state) + length s.aside.ids.items

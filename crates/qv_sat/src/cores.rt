@@ -1,6 +1,7 @@
 //! The core.
 
-ghost use Rattle.std.specs.Prelude.{◌≡◌, ◌≢◌, ◌+◌, ◌-◌, ◌<◌, ◌≤◌, ◌^◌, [], Err, IfOk, OnOk, OnErr};
+ghost use Rattle.std.specs.Prelude.{◌≡◌, ◌≢◌, ◌+◌, ◌-◌, ◌<◌, ◌≤◌, ◌^◌, ◌↔◌, [], Any, Err, IfOk};
+ghost use Rattle.std.specs.Prelude.{IsTrue, OnOk, OnErr};
 ghost use Rattle.qv_cnf.specs.Derivation.{additions};
 ghost use Rattle.qv_cnf.specs.LratLine.{lines_of};
 ghost use Rattle.qv_cnf.specs.Refutation.{Refutes};
@@ -57,6 +58,23 @@ impl Core {
     {
         self.solver.backtrack();
         self.solver.add(id, lits)
+    }
+
+    /// Adds a clause that a search needn't look at until it ends, if the variable is one of the
+    /// clause's. It pays where that variable stands in no clause that is looked at.
+    pub fn set_aside(&mut self, id: u64, lits: &[Lit], guard: u32) -> Result<(), AllocError>
+        requires above { self.old.top < id }
+        requires few { id < 2 ^ 62 }
+        requires some { lits.now ≢ [] }
+        ensures ok { OnOk result (self.new ≡ with_base self.old id lits.now) }
+        ensures err { OnErr result (self.new ≡ self.old) }
+    {
+        self.solver.backtrack();
+        if names(lits, guard) {
+            self.solver.set_aside(id, lits, guard)
+        } else {
+            self.solver.add(id, lits)
+        }
     }
 
     /// Says of pairs of literals that each may be one literal. A long search looks whether they are,
@@ -150,4 +168,11 @@ impl Core {
     pub fn policy(&self) -> Policy {
         self.solver.policy()
     }
+}
+
+// Whether some literal is of the variable.
+fn names(lits: &[Lit], variable: u32) -> bool
+    ensures { IsTrue result ↔ Any (λ l. l.variable ≡ variable) lits.now }
+{
+    lits.iter().any(|lit| lit.variable() == variable)
 }

@@ -2,6 +2,7 @@
 #![tactic(auto)]
 
 mod analysing;
+mod aside;
 mod choosing;
 mod cores;
 mod database;

@@ -1,18 +1,23 @@
 //! The inside of a core, and how it learns.
 
 ghost use Rattle.std.specs.Prelude.{◌≡◌, ◌≢◌, ◌+◌, ◌<◌, ◌≤◌, ◌^◌, true, false, List, [], Some};
-ghost use Rattle.std.specs.Prelude.{All, map, pos, IfOk, IfSome, OnOk, OnErr};
+ghost use Rattle.std.specs.Prelude.{All, Any, map, pos, length, Ok, None, IfOk, IfSome, OnOk, OnErr};
 ghost use Rattle.qv_cnf.specs.Literal.{Literal};
 ghost use Rattle.qv_cnf.specs.LratLine.{lines_of};
+ghost use Rattle.qv_learn.specs.Learning.{AreMet};
 ghost use Rattle.qv_watch.specs.TrailState.{IsTrail};
 ghost use Rattle.qv_sat.specs.Answering.{IsFailed, IsFound, OnEmptyCore, OnFound, OnSomeCore};
 ghost use Rattle.qv_sat.specs.Answering.{OnUnsat};
 ghost use Rattle.qv_sat.specs.CoreState.{with_base, HasNoConflict, Trims};
 ghost use Rattle.qv_sat.specs.Deciding.{AnswersOn, AssumedFirst, IsWithin};
 ghost use Rattle.qv_sat.specs.Holding.{core_of, Held, IsCovered, IsWide};
-ghost use Rattle.qv_sat.specs.Spending.{MaySpend, Spends};
+ghost use Rattle.qv_sat.specs.Aside.{HasNoGuard};
+ghost use Rattle.qv_sat.specs.Learnt.{IsLearnt};
+ghost use Rattle.qv_sat.specs.Reaching.{IsReached};
+ghost use Rattle.qv_sat.specs.Spending.{left, MaySpend, Spends};
 
 use super::analysing::analyse;
+use super::aside::Aside;
 use super::choosing::Chooser;
 use super::database::Database;
 use super::deciding::{Reached, descend};
@@ -25,7 +30,7 @@ use qv_learn::{Learner, Learnt};
 use qv_watch::{Propagated, Trail};
 use std::alloc::{AllocError, Global};
 
-// Clauses, and what was learnt from them. All of them are attached to the trail.
+// Clauses, and what was learnt from them. All of them but those aside are attached to the trail.
 #[derive(Drop)]
 pub(crate) struct Solver {
     pub(crate) alloc: Global,
@@ -42,6 +47,7 @@ pub(crate) struct Solver {
     pub(crate) refuted: bool,
     pub(crate) restarts: Restarts,
     pub(crate) database: Database,
+    pub(crate) aside: Aside,
 }
 
 impl Solver {
@@ -64,6 +70,7 @@ impl Solver {
             refuted: false,
             restarts: Restarts::new(),
             database: Database::new(alloc),
+            aside: Aside::new(alloc),
         }
     }
 
@@ -80,6 +87,7 @@ impl Solver {
             AssumedFirst assumptions self.new.trail.entries }
         ensures variables { self.new.variables ≡ self.old.variables }
         ensures wide { IsWide self.old → IsWide self.new }
+        ensures aside { self.new.aside ≡ self.old.aside }
     {
         if self.trail.level() > 0 {
             self.chooser.take_back(&mut self.trail, 0);
@@ -100,6 +108,7 @@ impl Solver {
         ensures first { (assumptions : List Literal) →
             AssumedFirst assumptions self.old.trail.entries →
             AssumedFirst assumptions self.new.trail.entries }
+        ensures aside { self.new.aside ≡ self.old.aside }
     {
         let conflicts = self.restarts.conflicts;
         let is_full = self.database.is_due(conflicts);
@@ -129,6 +138,7 @@ impl Solver {
         ensures chooser { self.new.chooser ≡ self.old.chooser }
         ensures refuted { self.new.refuted ≡ self.old.refuted }
         ensures variables { self.new.variables ≡ self.old.variables }
+        ensures aside { self.new.aside ≡ self.old.aside }
     {
         let chosen = self.database.reduced(&self.trail, conflicts)?;
         let ids = idle(self.alloc, &self.base, &self.trail, &chosen)?;
@@ -200,8 +210,78 @@ impl Solver {
         Ok(())
     }
 
-    // Learns from a conflict, and goes back to the level at which what was learnt is unit. The
-    // learnt clause is charged for before it is added, and its memory is taken before that.
+    // Adds a clause of the base that is left aside, with a variable that guards it. Nothing is
+    // assumed.
+    pub(crate) fn set_aside(&mut self, id: u64, lits: &[Lit], guard: u32) -> Result<(), AllocError>
+        requires held { Held self.old }
+        requires covered { IsCovered self.old }
+        requires above { self.old.top < id }
+        requires few { id < 2 ^ 62 }
+        requires some { lits.now ≢ [] }
+        requires guard { Any (λ l. l.variable ≡ guard) lits.now }
+        ensures held { Held self.new }
+        ensures covered { IsCovered self.new }
+        ensures ok { OnOk result (core_of self.new ≡ with_base (core_of self.old) id lits.now) }
+        ensures err { OnErr result (core_of self.new ≡ core_of self.old) }
+    {
+        self.make_room(lits)?;
+        self.chooser.note(lits)?;
+        self.aside.guard(guard)?;
+        self.base.add(id, lits)?;
+        self.aside.ids.push_reserved(id);
+        self.top = id;
+        Ok(())
+    }
+
+    // Goes back, and attaches the clauses that were left aside.
+    fn attach_aside(&mut self) -> Result<(), AllocError>
+        requires held { Held self.old }
+        requires covered { IsCovered self.old }
+        requires wide { IsWide self.old }
+        ensures held { Held self.new }
+        ensures covered { IsCovered self.new }
+        ensures wide { IsWide self.new }
+        ensures core { core_of self.new ≡ core_of self.old }
+        ensures refuted { self.new.refuted ≡ self.old.refuted }
+        ensures variables { self.new.variables ≡ self.old.variables }
+        ensures first { (assumptions : List Literal) →
+            AssumedFirst assumptions self.new.trail.entries }
+        ensures none { OnOk result (self.new.aside.ids.items ≡ []) }
+    {
+        self.backtrack();
+        'aside: while !self.aside.is_empty() {
+            self.attach_last()?;
+        }
+        Ok(())
+    }
+
+    // Attaches the last of them. Nothing is assumed.
+    fn attach_last(&mut self) -> Result<(), AllocError>
+        requires held { Held self.old }
+        requires level { self.old.trail.level ≡ 0 }
+        requires some { self.old.aside.ids.items ≢ [] }
+        ensures held { Held self.new }
+        ensures core { core_of self.new ≡ core_of self.old }
+        ensures refuted { self.new.refuted ≡ self.old.refuted }
+        ensures variables { self.new.variables ≡ self.old.variables }
+        ensures chooser { self.new.chooser ≡ self.old.chooser }
+        ensures entries { self.new.trail.entries ≡ self.old.trail.entries }
+        ensures level { self.new.trail.level ≡ 0 }
+        ensures fewer { OnOk result (length self.new.aside.ids.items
+            < length self.old.aside.ids.items) }
+    {
+        let last = self.aside.ids.len() - 1;
+        let id = self.aside.ids[last];
+        let Some(lits) = self.base.get(id) else {
+            unreachable!()
+        };
+        self.trail.attach(id, lits)?;
+        self.aside.ids.truncate(last);
+        Ok(())
+    }
+
+    // Learns from a conflict. Where what would be learnt may contain a clause that was left aside, all
+    // these are attached instead.
     pub(crate) fn learn<B: Budget>(&mut self, conflict: u64, budget: &mut B) -> Result<(), SatFault>
         requires ready { MaySpend B.Budget budget.old self.old }
         requires covered { IsCovered self.old }
@@ -211,14 +291,45 @@ impl Solver {
         ensures spends { Spends B.Budget budget.old budget.new self.old self.new result }
         ensures covered { IsCovered self.new }
         ensures wide { IsWide self.new }
-        ensures charged { OnOk result (B.count budget.new ≡ B.count budget.old + 1) }
-        ensures learnt { OnOk result (self.new.top ≡ self.old.top + 1) }
+        ensures ready { OnOk result (self.new.refuted ≡ false →
+            MaySpend B.Budget budget.new self.new) }
+        ensures less { OnOk result (left B.Budget budget.new self.new
+            < left B.Budget budget.old self.old) }
         ensures first { (assumptions : List Literal) →
             AssumedFirst assumptions self.old.trail.entries →
             AssumedFirst assumptions self.new.trail.entries }
         ensures variables { self.new.variables ≡ self.old.variables }
     {
         let learnt = analyse(&mut self.learner, &self.trail, conflict)?;
+        if self.aside.may_be_in(&learnt.lits) {
+            self.attach_aside()?;
+            return Ok(());
+        }
+        self.keep(learnt, budget)
+    }
+
+    // Adds a clause that was learnt, and goes back to the level at which it is unit. It is charged for
+    // before it is added, and its memory is taken before that.
+    fn keep<B: Budget>(&mut self, learnt: Learnt, budget: &mut B) -> Result<(), SatFault>
+        requires ready { MaySpend B.Budget budget.old self.old }
+        requires covered { IsCovered self.old }
+        requires wide { IsWide self.old }
+        requires trail { IsTrail self.old.trail }
+        requires learnt { IsLearnt self.old.trail learnt.lits.items learnt.hints.items
+            learnt.level }
+        requires met { AreMet self.old.trail learnt.hints.items self.old.learner }
+        requires apart { HasNoGuard self.old.aside learnt.lits.items }
+        ensures spends { Spends B.Budget budget.old budget.new self.old self.new result }
+        ensures covered { IsCovered self.new }
+        ensures wide { IsWide self.new }
+        ensures charged { OnOk result (B.count budget.new ≡ B.count budget.old + 1) }
+        ensures learnt { OnOk result (self.new.top ≡ self.old.top + 1) }
+        ensures first { (assumptions : List Literal) →
+            AssumedFirst assumptions self.old.trail.entries →
+            AssumedFirst assumptions self.new.trail.entries }
+        ensures variables { self.new.variables ≡ self.old.variables }
+        ensures aside { self.new.aside ≡ self.old.aside }
+    {
         let id = self.top + 1;
         let hints = signed(self.alloc, &learnt.hints)?;
         self.steps.reserve(1)?;
@@ -274,6 +385,7 @@ impl Solver {
         ensures first { OnOk result (AssumedFirst assumptions.now self.new.trail.entries) }
         ensures answer { IfOk result (λ o. IfSome o
             (AnswersOn self.new.trail.clauses assumptions.now self.new.variables)) }
+        ensures aside { self.new.aside ≡ self.old.aside }
     {
         let reached = descend(
             self.alloc,
@@ -307,8 +419,9 @@ impl Solver {
         ensures first { OnOk result (AssumedFirst assumptions.now self.new.trail.entries) }
         ensures answer { IfOk result (λ o. IfSome o
             (AnswersOn self.new.trail.clauses assumptions.now self.new.variables)) }
+        ensures none { IfOk result (λ o. IfSome o (λ _. self.new.aside.ids.items ≡ [])) }
     {
-        if self.restarts.conflicts > 0 {
+        if self.restarts.conflicts > 0 || !self.aside.is_empty() {
             return Ok(None);
         }
         if let Some(outcome) = self.attempt(assumptions, true, false)? {
@@ -367,15 +480,15 @@ impl Solver {
         ensures no_conflict { OnSomeCore result (HasNoConflict (core_of self.new)) }
     {
         loop {
-            match descend(
+            let reached = descend(
                 self.alloc,
                 &mut self.trail,
                 &mut self.chooser,
                 assumptions,
                 self.variables,
-            )? {
-                Reached::Answer(outcome) => return Ok(outcome),
-                Reached::Conflict(id) => self.learn(id, budget)?,
+            )?;
+            if let Some(outcome) = self.settle(reached, assumptions, budget)? {
+                return Ok(outcome);
             }
             if self.refuted {
                 let core = Vec::new(self.alloc);
@@ -383,6 +496,49 @@ impl Solver {
             }
             self.pause(assumptions)?;
         }
+    }
+
+    // Learns from a conflict, and gives an answer that holds of all clauses. Where some were left
+    // aside, they are attached at an answer.
+    fn settle<B: Budget>(
+        &mut self,
+        reached: Reached,
+        assumptions: &[Lit],
+        budget: &mut B,
+    ) -> Result<Option<Outcome>, SatFault>
+        requires ready { MaySpend B.Budget budget.old self.old }
+        requires covered { IsCovered self.old }
+        requires wide { IsWide self.old }
+        requires trail { IsTrail self.old.trail }
+        requires reached { IsReached self.old.trail assumptions.now self.old.variables reached }
+        ensures spends { Spends B.Budget budget.old budget.new self.old self.new result }
+        ensures covered { IsCovered self.new }
+        ensures wide { IsWide self.new }
+        ensures ready { OnOk result (self.new.refuted ≡ false →
+            MaySpend B.Budget budget.new self.new) }
+        ensures less { result ≡ Ok None →
+            left B.Budget budget.new self.new < left B.Budget budget.old self.old }
+        ensures answer { IfOk result (λ o. IfSome o
+            (AnswersOn self.new.trail.clauses assumptions.now self.new.variables)) }
+        ensures none { IfOk result (λ o. IfSome o (λ _. self.new.aside.ids.items ≡ [])) }
+        ensures first { (assumptions : List Literal) →
+            AssumedFirst assumptions self.old.trail.entries →
+            AssumedFirst assumptions self.new.trail.entries }
+        ensures variables { self.new.variables ≡ self.old.variables }
+    {
+        let outcome = match reached {
+            Reached::Answer(outcome) => outcome,
+            Reached::Conflict(id) => {
+                self.learn(id, budget)?;
+                return Ok(None);
+            }
+        };
+        if self.aside.is_empty() {
+            return Ok(Some(outcome));
+        }
+        drop(outcome);
+        self.attach_aside()?;
+        Ok(None)
     }
 }
 

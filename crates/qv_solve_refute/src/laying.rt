@@ -12,7 +12,8 @@ ghost use Rattle.qv_blast.specs.Blasters.{from_one};
 ghost use Rattle.qv_solve_refute.specs.Feeding.{listed_in};
 
 use qv_closed::{Closed, Laid, close, laid_core};
-use qv_cnf::{ClauseList, Lit, Step};
+use qv_cnf::{ClauseList, Step};
+use qv_gates::Advice;
 use qv_store::NoMemory;
 use std::alloc::Global;
 
@@ -27,13 +28,13 @@ pub(crate) fn close_list(alloc: Global, clauses: &ClauseList) -> Result<Closed, 
     close(alloc, clauses)
 }
 
-// A core that has them, and behind them what these steps add, or what none add. A long search looks
-// whether the pairs of literals are equal.
+// A core that has them, and behind them what these steps add, or what none add. A search may use the
+// advice.
 pub(crate) fn laid_list(
     alloc: Global,
     clauses: &ClauseList,
     steps: Vec<Step>,
-    pairs: Vec<Vec<Lit>>,
+    advice: Advice,
 ) -> Result<Laid, NoMemory>
     requires numbered { clauses.now ≡ from_one (clauses_of clauses.now.live) }
     requires each { All (λ c. c ≢ []) (clauses_of clauses.now.live) }
@@ -43,5 +44,5 @@ pub(crate) fn laid_list(
     ensures base { IfOk result (λ laid. (formulas : List Tree) →
         IsBaseOf (listed_in clauses.now) formulas → IsBaseOf laid.core.base formulas) }
 {
-    laid_core(alloc, clauses, steps, pairs)
+    laid_core(alloc, clauses, steps, advice)
 }

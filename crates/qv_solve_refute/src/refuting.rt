@@ -145,12 +145,12 @@ fn refutation_of(
     let Closed {
         steps,
         refuted,
-        pairs,
+        advice,
     } = close_list(alloc, clauses)?;
     if refuted && have_ids(&steps) {
         return Ok(Refutation::Closed(steps));
     }
-    let mut laid = laid_list(alloc, clauses, steps, pairs)?;
+    let mut laid = laid_list(alloc, clauses, steps, advice)?;
     conclude(&mut laid.core, meter)?;
     Ok(Refutation::Searched(laid))
 }

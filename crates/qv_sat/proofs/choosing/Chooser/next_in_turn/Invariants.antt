@@ -1,4 +1,4 @@
-use Rattle.std.proofs.Common.{◌≡◌, ◌-◌, ◌≤◌, length}
+use Rattle.std.proofs.Common.{◌≡◌, ◌-◌, ◌≤◌}
 use Rattle.qv_sat.proofs.choosing.Chooser.next_in_turn.Given as goal
 
 abbrev pub invariant-up : goal.invariant-up

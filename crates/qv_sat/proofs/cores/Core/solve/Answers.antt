@@ -17,7 +17,7 @@ returns-then-self-clause-unsat g c =
     let u = c.backtrack.new.self in
     subst (λ (xs : List Literal). IsFailed c.args.self.now.base c.args.assumptions.now xs) (sym c.new-core.ensures.items)
     (subst (λ (k : CoreState). IsFailed k.base c.args.assumptions.now []) (c.backtrack.ensures.core ∙ c.self.view_is)
-    (IsFailed-refuted u.base (lines_of u.steps.items) u.trail u.top u.variables u.refuted c.args.assumptions.now c.backtrack.ensures.held c.if-self.true))
+    (IsFailed-refuted u.base (lines_of u.steps.items) u.trail u.top u.variables u.refuted u.aside c.args.assumptions.now c.backtrack.ensures.held c.if-self.true))
 
 pub returns-then-self-clause-refuted : goal.returns-then-self-clause-refuted
 returns-then-self-clause-refuted g c _ =
@@ -49,7 +49,7 @@ pub returns-then-self-clause-refutes : goal.returns-then-self-clause-refutes
 returns-then-self-clause-refutes g c first _ =
     let u = c.backtrack.new.self in
     let now : ComesFirst u.base.live (lines_of u.steps.items) = subst (λ (k : CoreState). ComesFirst k.base k.steps) (sym (c.backtrack.ensures.core ∙ c.self.view_is)) first in
-    Refutes-held u.base (lines_of u.steps.items) u.trail u.top u.variables u.refuted c.backtrack.ensures.held now c.if-self.true
+    Refutes-held u.base (lines_of u.steps.items) u.trail u.top u.variables u.refuted u.aside c.backtrack.ensures.held now c.if-self.true
 
 pub returns-clause-first : goal.returns-clause-first
 returns-clause-first g c first =
@@ -63,4 +63,4 @@ returns-clause-refutes g c first =
     let old = core_of c.make_choice.new.self in
     let before : ComesFirst old.base old.steps = subst (λ (k : CoreState). ComesFirst k.base k.steps) (sym (c.make_choice.ensures.core ∙ c.make_room.ensures.core ∙ c.backtrack.ensures.core ∙ c.self.view_is)) first in
     let now = ComesFirst-goes_on old (core_of u) c.make_choice.ensures.held.ordered c.search.ensures.spends.goes_on before in
-    refuted_map c.search.result (u.refuted ≡ true) (Refutes u.base.live (lines_of u.steps.items)) (λ is. Refutes-held u.base (lines_of u.steps.items) u.trail u.top u.variables u.refuted c.search.ensures.spends.held now is) c.search.ensures.refuted
+    refuted_map c.search.result (u.refuted ≡ true) (Refutes u.base.live (lines_of u.steps.items)) (λ is. Refutes-held u.base (lines_of u.steps.items) u.trail u.top u.variables u.refuted u.aside c.search.ensures.spends.held now is) c.search.ensures.refuted

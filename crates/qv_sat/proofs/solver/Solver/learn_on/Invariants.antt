@@ -1,14 +1,14 @@
-use Rattle.std.proofs.Common.{◌≡◌, ◌+◌, ◌-◌, All}
+use Rattle.std.proofs.Common.{◌≡◌, ◌+◌, All}
 use Rattle.qv_cnf.specs.Derivation.{additions}
 use Rattle.qv_cnf.specs.LratLine.{lines_of}
 use Rattle.qv_sat.specs.CoreState.{GoesOn}
 use Rattle.qv_sat.specs.Deciding.{AssumedFirst, IsWithin}
 use Rattle.qv_sat.specs.Holding.{core_of, IsCovered, IsWide}
-use Rattle.qv_sat.specs.Spending.{MaySpend}
+use Rattle.qv_sat.specs.Spending.{left, MaySpend}
 use Rattle.qv_sat.proofs.solver.Solver.learn_on.Given as goal
 
-abbrev pub invariant-loop-outcome : goal.invariant-loop-outcome
-invariant-loop-outcome g l = record {
+abbrev pub invariant-loop-reached : goal.invariant-loop-reached
+invariant-loop-reached g l = record {
   ready : MaySpend g.B.Budget l.budget l.self;
   covered : IsCovered l.self;
   wide : IsWide l.self;
@@ -19,5 +19,5 @@ invariant-loop-outcome g l = record {
   first : AssumedFirst l.assumptions l.self.trail.entries;
 }
 
-abbrev pub decreases-loop-outcome : goal.decreases-loop-outcome
-decreases-loop-outcome g l = g.B.Budget.limit l.budget - g.B.Budget.count l.budget
+abbrev pub decreases-loop-reached : goal.decreases-loop-reached
+decreases-loop-reached g l = left g.B.Budget l.budget l.self

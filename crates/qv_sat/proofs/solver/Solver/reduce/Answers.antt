@@ -44,13 +44,13 @@ returns-clause-held c =
     let ids = c.in_ok-ids.ids.items in
     let idle = listed-idle s.base.live s.trail c.deref.result.now ids c.in_ok-ids.ensures in
     let some : ids ≢ [] = search rules in
-    let derivation = reduce_derivation s.base lines s.trail s.top s.variables s.refuted c.requires.held ids idle some in
+    let derivation = reduce_derivation s.base lines s.trail s.top s.variables s.refuted s.aside c.requires.held ids idle some in
     let step : Step = Delete s.top c.in_ok-ids.ids in
     let steps : lines_of c.push_reserved.new.self.items ≡ lines ++ Deletion s.top ids ∷ [] =
     ap lines_of (c.push_reserved.ensures.items ∙ ap (λ (xs : List Step). xs ++ step ∷ []) c.in_ok-reserve.ensures.items) ∙ lines-push s.steps.items step in
     let room : c.detach_all.new.trail.room ≡ s.trail.room = ap (λ (t : TrailState). t.room) c.detach_all.ensures in
     let clauses : c.detach_all.new.trail.clauses ≡ without ids s.trail.clauses = ap (λ (t : TrailState). t.clauses) c.detach_all.ensures ∙ ap (λ (ks : List ℕ). without ks s.trail.clauses) c.deref-2.ensures.value in
-    subst (λ (ls : List LratLine). IsHeld s.base ls c.detach_all.new.trail s.top s.variables s.refuted) (sym steps) (IsHeld-reduce s.base lines s.trail s.top s.variables s.refuted c.requires.held c.detach_all.new.trail ids idle derivation room clauses)
+    subst (λ (ls : List LratLine). IsHeld s.base ls c.detach_all.new.trail s.top s.variables s.refuted s.aside) (sym steps) (IsHeld-reduce s.base lines s.trail s.top s.variables s.refuted s.aside c.requires.held c.detach_all.new.trail ids idle derivation room clauses)
 
 pub returns-clause-trims : goal.returns-clause-trims
 returns-clause-trims c =
@@ -59,7 +59,7 @@ returns-clause-trims c =
     let ids = c.in_ok-ids.ids.items in
     let idle = listed-idle s.base.live s.trail c.deref.result.now ids c.in_ok-ids.ensures in
     let some : ids ≢ [] = search rules in
-    let derivation = reduce_derivation s.base lines s.trail s.top s.variables s.refuted c.requires.held ids idle some in
+    let derivation = reduce_derivation s.base lines s.trail s.top s.variables s.refuted s.aside c.requires.held ids idle some in
     let step : Step = Delete s.top c.in_ok-ids.ids in
     let steps : lines_of c.push_reserved.new.self.items ≡ lines ++ Deletion s.top ids ∷ [] =
     ap lines_of (c.push_reserved.ensures.items ∙ ap (λ (xs : List Step). xs ++ step ∷ []) c.in_ok-reserve.ensures.items) ∙ lines-push s.steps.items step in
