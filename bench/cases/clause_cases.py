@@ -95,7 +95,8 @@ def trail_heading():
 
 def core_heading():
     heading(
-        "core ..        a core under a new budget for each question: new, next ID, add (clauses), ask LIMIT ASSUMPTIONS, and then count,",
+        "core ..        a core under a new budget for each question: new, next ID, add (clauses), aside (clauses, each left aside under",
+        "               the variable of its last literal), ask LIMIT ASSUMPTIONS, and then count,",
         "               model, failed (the failed assumptions); patient (limits of 1, 2, .. until one isn't spent), tight (whether the",
         "               conflicts of a refutation are enough for it, and one fewer isn't), models (how many)",
         "counted ..     a core under one counter: new LIMIT (clauses), ask ASSUMPTIONS, and then count, model, failed",
@@ -965,13 +966,13 @@ class CoreRows:
         case("core new", "ok")
         self.add(clauses)
 
-    def add(self, clauses):
+    def add(self, clauses, word="add"):
         """As many on a line as stand in 100 columns."""
         line = []
         for clause in clauses + [None]:
             if line and (clause is None or len(words(flat(line + [clause]))) > 91):
                 self.given += len(line)
-                case(f"core add {words(flat(line))}", f"{self.given} clauses")
+                case(f"core {word} {words(flat(line))}", f"{self.given} clauses")
                 line = []
             line.append(clause)
         self.clauses += clauses
@@ -1081,6 +1082,32 @@ def core_tables():
             rows.ask(*assumptions)
             rows.say("model", model)
     policies()
+    asides()
+
+
+def asides():
+    """Answers don't depend on what is left aside."""
+    rounds = random.Random(20261201)
+    rows = CoreRows([[1, 2]], "Clauses that are left aside hold in each answer.")
+    rows.add([[-1, 3], [-2, 3]], "aside")
+    rows.ask(-3)
+    rows.ask()
+    rows = CoreRows([], "All of them may be.")
+    rows.add(FOUR, "aside")
+    rows.ask()
+    rows.say("failed", "none")
+    case("core new", "ok")
+    case("core aside 0", "bad case")
+    for _ in range(40):
+        variables = rounds.randrange(3, 16)
+        clauses = [random_clause(rounds, variables, 3) for _ in range(rounds.randrange(variables, 5 * variables))]
+        rows = CoreRows([])
+        while clauses:
+            count = rounds.randrange(1, len(clauses) + 1)
+            rows.add(clauses[:count], rounds.choice(("add", "aside")))
+            clauses = clauses[count:]
+            if not clauses or rounds.random() < 0.3:
+                rows.ask(*(rounds.choice((1, -1)) * v for v in rounds.sample(range(1, variables + 1), rounds.randrange(3))))
 
 
 def policies():

@@ -1,9 +1,9 @@
 //! Clauses of a list, given to a core.
 
-ghost use Rattle.std.specs.Prelude.{◌≡◌, ◌≢◌, [], All, IfOk, OnOk, suc};
+ghost use Rattle.std.specs.Prelude.{◌≡◌, ◌≢◌, ◌<◌, ◌^◌, [], All, IfOk, OnOk, suc};
 ghost use Rattle.qv_cnf.specs.Listing.{clauses_of};
 ghost use Rattle.qv_blast.specs.Blasters.{from_one};
-ghost use Rattle.qv_sat.specs.CoreState.{empty_core};
+ghost use Rattle.qv_sat.specs.CoreState.{empty_core, with_base};
 ghost use Rattle.qv_closed.specs.Cores.{IsFed};
 
 use qv_cnf::{ClauseList, Lit};
@@ -20,20 +20,8 @@ pub(crate) struct Given {
     pub(crate) next: u64,
 }
 
-/// A core that has these clauses, whose ids count from 1.
-pub(crate) fn core_of(alloc: Global, clauses: &ClauseList) -> Result<Given, AllocError>
-    requires numbered { clauses.now ≡ from_one (clauses_of clauses.now.live) }
-    requires each { All (λ c. c ≢ []) (clauses_of clauses.now.live) }
-    ensures fed { IfOk result (λ given. IsFed given.core clauses.now.live) }
-    ensures next { IfOk result (λ given. given.next ≡ suc given.core.top) }
-{
-    let mut core = Core::new(alloc);
-    let next = add_all(&mut core, clauses, &[])?;
-    Ok(Given { core, next })
-}
-
-/// The same core, which leaves clauses aside that have a guard.
-pub(crate) fn guarded_core_of(
+/// A core that has these clauses, whose ids count from 1. Those are left aside that have a guard.
+pub(crate) fn core_of(
     alloc: Global,
     clauses: &ClauseList,
     guards: &[u32],

@@ -11,7 +11,7 @@ ghost use Rattle.qv_blast.specs.Blasters.{from_one};
 ghost use Rattle.qv_meter.specs.Bases.{IsBaseOf};
 ghost use Rattle.qv_closed.specs.Cores.{IsAddedTo, IsFed, IsLaid};
 
-use crate::feeding::{MOST_IDS, core_of, give, guarded_core_of};
+use crate::feeding::{MOST_IDS, core_of, give};
 use crate::ids::have_ids;
 use qv_cnf::{ClauseList, Step};
 use qv_gates::Advice;
@@ -47,7 +47,7 @@ pub fn laid_core(
         IsBaseOf clauses.now.live formulas → IsBaseOf laid.core.base formulas) }
 {
     let Advice { pairs, guards } = advice;
-    let mut given = guarded_core_of(alloc, clauses, &guards)?;
+    let mut given = core_of(alloc, clauses, &guards)?;
     given.core.suggest(pairs);
     let first = given.next;
     if let Some(next) = lay(&mut given.core, first, &steps, &guards)? {
@@ -57,7 +57,7 @@ pub fn laid_core(
             next,
         });
     }
-    let plain = core_of(alloc, clauses)?;
+    let plain = core_of(alloc, clauses, &[])?;
     Ok(Laid {
         core: plain.core,
         steps: Vec::new(alloc),

@@ -25,15 +25,17 @@ enum Call {
     New,
     Next,
     Add,
+    Aside,
     Ask,
     Answer(Question),
     Last(Fact),
 }
 
-static CALLS: [(&str, Call); 10] = [
+static CALLS: [(&str, Call); 11] = [
     ("new", Call::New),
     ("next", Call::Next),
     ("add", Call::Add),
+    ("aside", Call::Aside),
     ("ask", Call::Ask),
     ("patient", Call::Answer(Question::Patient)),
     ("tight", Call::Answer(Question::Tight)),
@@ -90,6 +92,14 @@ impl CoreCase {
         }
     }
 
+    fn set_aside(&mut self, words: &mut Words<'_>, out: &mut Answer) {
+        let clauses = words.lists(self.alloc, literal);
+        match self.session() {
+            Some(session) => set_all_aside(session, clauses, out),
+            None => out.refuse(),
+        }
+    }
+
     fn ask(&mut self, words: &mut Words<'_>, out: &mut Answer) {
         let limit = words.number();
         let assumptions = words.each(self.alloc, literal);
@@ -114,6 +124,7 @@ impl Cases for CoreCase {
             Some(Call::New) => self.renew(out),
             Some(Call::Next) => self.go_on_at(words.number(), out),
             Some(Call::Add) => self.add(words, out),
+            Some(Call::Aside) => self.set_aside(words, out),
             Some(Call::Ask) => self.ask(words, out),
             Some(Call::Answer(question)) => self.answer_to(question, out),
             Some(Call::Last(fact)) => recall(self.alloc, self.last.last(), fact, out),
@@ -125,6 +136,16 @@ impl Cases for CoreCase {
 fn add_all(session: &mut Session, clauses: Vec<Vec<Lit>>, out: &mut Answer) {
     for lits in clauses {
         if !session.add(lits) {
+            out.refuse();
+        }
+    }
+    out.show(session.given());
+    out.say(" clauses");
+}
+
+fn set_all_aside(session: &mut Session, clauses: Vec<Vec<Lit>>, out: &mut Answer) {
+    for lits in clauses {
+        if !session.set_aside(lits) {
             out.refuse();
         }
     }

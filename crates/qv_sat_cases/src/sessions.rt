@@ -110,6 +110,20 @@ impl Session {
         self.originals.push(Original { id, lits }).is_ok()
     }
 
+    /// Adds a clause that is left aside under the variable of its last literal.
+    pub(crate) fn set_aside(&mut self, lits: Vec<Lit>) -> bool {
+        let id = self.next;
+        let guard = match lits.last() {
+            Some(lit) if id < FAR => lit.variable(),
+            _ => return false,
+        };
+        if self.core.set_aside(id, &lits, guard).is_err() {
+            return false;
+        }
+        self.next += 1;
+        self.originals.push(Original { id, lits }).is_ok()
+    }
+
     /// Leaves out the ids below this one.
     pub(crate) fn go_on_at(&mut self, id: u64) -> bool {
         let may = id >= self.next;

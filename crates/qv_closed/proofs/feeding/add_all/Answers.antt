@@ -7,16 +7,16 @@ use Rattle.qv_closed.proofs.feeding.add_all.Goals as goal
 pub fed-init : goal.fed-init
 fed-init c = feeding-start c.args.clauses.now.live c.args.core.now c.requires.empty
 
-pub add-requires-clause-above : goal.add-requires-clause-above
-add-requires-clause-above c = omega (arith, c.fed.invariant.top)
+pub give-requires-clause-above : goal.add-requires-clause-above
+give-requires-clause-above c = omega (arith, c.fed.invariant.top)
 
-pub add-requires-clause-some : goal.add-requires-clause-some
-add-requires-clause-some c = given-filled c.args.clauses.now.live c.fed.id c.in-Some.lits.now c.requires.each c.in-Some.ensures
+pub give-requires-clause-some : goal.add-requires-clause-some
+give-requires-clause-some c = given-filled c.args.clauses.now.live c.fed.id c.in-Some.lits.now c.requires.each c.in-Some.ensures
 
 pub fed-preserved : goal.fed-preserved
 fed-preserved c =
     let list = c.args.clauses.now in
-    feeding-next (clauses_of list.live) list.live c.fed.id c.fed.core c.add.new.self c.in-Some.lits.now (numbered-live list c.requires.numbered) c.fed-test.true c.fed.invariant c.in-Some.ensures c.in_ok-add-in-Some.ensures.ok
+    feeding-next (clauses_of list.live) list.live c.fed.id c.fed.core c.give.new.core c.in-Some.lits.now (numbered-live list c.requires.numbered) c.fed-test.true c.fed.invariant c.in-Some.ensures c.in_ok-give-in-Some.ensures.ok
 
 pub returns-in-None-clause-fed : goal.returns-in-None-clause-fed
 returns-in-None-clause-fed c =
