@@ -28,6 +28,8 @@ pub(crate) struct Chooser {
     // of a design that was unrolled before the later ones. Then those up to `passed` have values.
     in_turn: bool,
     passed: u32,
+    // Whether each variable isn't decided in turn: it stands in what is left aside.
+    late: Vec<bool>,
     // What is decided before all others.
     pub(crate) questions: Questions,
 }
@@ -42,6 +44,7 @@ impl Chooser {
             outputs: Vec::new(alloc),
             in_turn: false,
             passed: 0,
+            late: Vec::new(alloc),
             questions: Questions::new(alloc),
         }
     }
@@ -70,6 +73,30 @@ impl Chooser {
             self.outputs[width - 1] = true;
         }
         Ok(())
+    }
+
+    // From now on the variable isn't decided in turn.
+    pub(crate) fn postpone(&mut self, variable: u32) -> Result<(), AllocError>
+        ensures { self.new.order ≡ self.old.order }
+    {
+        let place = variable as usize;
+        if self.late.len() <= place {
+            self.late.resize(place + 1, false)?;
+        }
+        self.late[place] = true;
+        Ok(())
+    }
+
+    // From now on every variable may be.
+    pub(crate) fn take_all(&mut self)
+        ensures { self.new.order ≡ self.old.order }
+    {
+        self.late.clear();
+        self.passed = 0;
+    }
+
+    fn is_late(&self, variable: u32) -> bool {
+        matches!(self.late.get(variable as usize), Some(true))
     }
 
     // Gives all inputs one value as their last, and all outputs one.
@@ -182,7 +209,7 @@ impl Chooser {
         'up: while self.passed < last {
             self.passed += 1;
             let lit = self.signed(self.passed);
-            if trail.value(lit).is_none() {
+            if trail.value(lit).is_none() && !self.is_late(self.passed) {
                 return Some(lit);
             }
         }

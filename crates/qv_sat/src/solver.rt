@@ -1,7 +1,8 @@
 //! The inside of a core, and how it learns.
 
 ghost use Rattle.std.specs.Prelude.{◌≡◌, ◌≢◌, ◌+◌, ◌<◌, ◌≤◌, ◌^◌, true, false, List, [], Some};
-ghost use Rattle.std.specs.Prelude.{All, Any, map, pos, length, Ok, None, IfOk, IfSome, OnOk, OnErr};
+ghost use Rattle.std.specs.Prelude.{All, Any, map, pos, length, Ok, None, IfOk, IfSome, IfNone, OnOk};
+ghost use Rattle.std.specs.Prelude.{OnErr};
 ghost use Rattle.qv_cnf.specs.Literal.{Literal};
 ghost use Rattle.qv_cnf.specs.LratLine.{lines_of};
 ghost use Rattle.qv_learn.specs.Learning.{AreMet};
@@ -226,6 +227,7 @@ impl Solver {
     {
         self.make_room(lits)?;
         self.chooser.note(lits)?;
+        self.chooser.postpone(guard)?;
         self.aside.guard(guard)?;
         self.base.add(id, lits)?;
         self.aside.ids.push_reserved(id);
@@ -249,6 +251,7 @@ impl Solver {
         ensures none { OnOk result (self.new.aside.ids.items ≡ []) }
     {
         self.backtrack();
+        self.chooser.take_all();
         'aside: while !self.aside.is_empty() {
             self.attach_last()?;
         }
@@ -363,6 +366,20 @@ impl Solver {
         }
     }
 
+    // An answer, if it's one for all clauses.
+    fn whole(&self, outcome: Outcome) -> Option<Outcome>
+        ensures same { IfSome result (λ o. o ≡ outcome) }
+        ensures none { IfSome result (λ _. self.now.aside.ids.items ≡ []) }
+        ensures some { IfNone result (self.now.aside.ids.items ≢ []) }
+    {
+        if self.aside.is_empty() {
+            Some(outcome)
+        } else {
+            drop(outcome);
+            None
+        }
+    }
+
     // Descends once. Where a clause becomes false on the way, nothing is learnt: all is taken back, and
     // inputs and outputs get these values as their last.
     fn attempt(
@@ -385,7 +402,7 @@ impl Solver {
         ensures first { OnOk result (AssumedFirst assumptions.now self.new.trail.entries) }
         ensures answer { IfOk result (λ o. IfSome o
             (AnswersOn self.new.trail.clauses assumptions.now self.new.variables)) }
-        ensures aside { self.new.aside ≡ self.old.aside }
+        ensures none { IfOk result (λ o. IfSome o (λ _. self.new.aside.ids.items ≡ [])) }
     {
         let reached = descend(
             self.alloc,
@@ -395,7 +412,7 @@ impl Solver {
             self.variables,
         )?;
         if let Reached::Answer(outcome) = reached {
-            return Ok(Some(outcome));
+            return Ok(self.whole(outcome));
         }
         self.backtrack();
         self.chooser.aim(inputs, outputs);
@@ -421,7 +438,7 @@ impl Solver {
             (AnswersOn self.new.trail.clauses assumptions.now self.new.variables)) }
         ensures none { IfOk result (λ o. IfSome o (λ _. self.new.aside.ids.items ≡ [])) }
     {
-        if self.restarts.conflicts > 0 || !self.aside.is_empty() {
+        if self.restarts.conflicts > 0 {
             return Ok(None);
         }
         if let Some(outcome) = self.attempt(assumptions, true, false)? {
@@ -533,10 +550,9 @@ impl Solver {
                 return Ok(None);
             }
         };
-        if self.aside.is_empty() {
+        if let Some(outcome) = self.whole(outcome) {
             return Ok(Some(outcome));
         }
-        drop(outcome);
         self.attach_aside()?;
         Ok(None)
     }
