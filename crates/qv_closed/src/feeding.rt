@@ -36,6 +36,23 @@ pub(crate) fn core_of(
     Ok(Given { core, next })
 }
 
+/// The same core, which looks in a long search whether these pairs of literals are equal.
+pub(crate) fn asked_core_of(
+    alloc: Global,
+    clauses: &ClauseList,
+    guards: &[u32],
+    pairs: Vec<Vec<Lit>>,
+) -> Result<Given, AllocError>
+    requires numbered { clauses.now ≡ from_one (clauses_of clauses.now.live) }
+    requires each { All (λ c. c ≢ []) (clauses_of clauses.now.live) }
+    ensures fed { IfOk result (λ given. IsFed given.core clauses.now.live) }
+    ensures next { IfOk result (λ given. given.next ≡ suc given.core.top) }
+{
+    let mut given = core_of(alloc, clauses, guards)?;
+    given.core.suggest(pairs);
+    Ok(given)
+}
+
 // Adds them to a core that has none, and gives the id behind them.
 fn add_all(core: &mut Core, clauses: &ClauseList, guards: &[u32]) -> Result<u64, AllocError>
     requires empty { core.old ≡ empty_core }

@@ -11,7 +11,7 @@ ghost use Rattle.qv_blast.specs.Blasters.{from_one};
 ghost use Rattle.qv_meter.specs.Bases.{IsBaseOf};
 ghost use Rattle.qv_closed.specs.Cores.{IsAddedTo, IsFed, IsLaid};
 
-use crate::feeding::{MOST_IDS, core_of, give};
+use crate::feeding::{MOST_IDS, asked_core_of, core_of, give};
 use crate::ids::have_ids;
 use qv_cnf::{ClauseList, Step};
 use qv_gates::Advice;
@@ -47,8 +47,7 @@ pub fn laid_core(
         IsBaseOf clauses.now.live formulas → IsBaseOf laid.core.base formulas) }
 {
     let Advice { pairs, guards } = advice;
-    let mut given = core_of(alloc, clauses, &guards)?;
-    given.core.suggest(pairs);
+    let mut given = asked_core_of(alloc, clauses, &guards, pairs)?;
     let first = given.next;
     if let Some(next) = lay(&mut given.core, first, &steps, &guards)? {
         return Ok(Laid {

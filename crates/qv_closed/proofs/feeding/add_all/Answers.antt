@@ -7,10 +7,10 @@ use Rattle.qv_closed.proofs.feeding.add_all.Goals as goal
 pub fed-init : goal.fed-init
 fed-init c = feeding-start c.args.clauses.now.live c.args.core.now c.requires.empty
 
-pub give-requires-clause-above : goal.add-requires-clause-above
+pub give-requires-clause-above : goal.give-requires-clause-above
 give-requires-clause-above c = omega (arith, c.fed.invariant.top)
 
-pub give-requires-clause-some : goal.add-requires-clause-some
+pub give-requires-clause-some : goal.give-requires-clause-some
 give-requires-clause-some c = given-filled c.args.clauses.now.live c.fed.id c.in-Some.lits.now c.requires.each c.in-Some.ensures
 
 pub fed-preserved : goal.fed-preserved

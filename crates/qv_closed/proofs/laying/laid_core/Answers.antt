@@ -13,11 +13,11 @@ pub returns-in-Some-clause-laid : goal.returns-in-Some-clause-laid
 returns-in-Some-clause-laid c =
     let given = c.in_ok-given.given.core in
     let core = c.lay.new.core in
-    let read = c.deref.result.now in
+    let read = c.deref-2.result.now in
     let fed : IsFed core (given.base ++ added (lines_of read)) = subst (λ (o : Option ℕ). IfSome o (λ next. IsFed core (given.base ++ added (lines_of read)))) c.in-Some.is c.in_ok-next.ensures.fed in
     let ids : All HasIds (lines_of read) = subst (λ (o : Option ℕ). IfSome o (λ next. All HasIds (lines_of read))) c.in-Some.is c.in_ok-next.ensures.ids in
     laid-with given core c.args.clauses.now.live (lines_of c.args.steps.items) c.requires.adds c.in_ok-given.ensures.fed
-    (subst (λ (xs : List Step). IsFed core (given.base ++ added (lines_of xs))) c.deref.ensures.value fed) (subst (λ (xs : List Step). All HasIds (lines_of xs)) c.deref.ensures.value ids)
+    (subst (λ (xs : List Step). IsFed core (given.base ++ added (lines_of xs))) c.deref-2.ensures.value fed) (subst (λ (xs : List Step). All HasIds (lines_of xs)) c.deref-2.ensures.value ids)
 
 pub returns-in-Some-clause-base : goal.returns-in-Some-clause-base
 returns-in-Some-clause-base c formulas h =
