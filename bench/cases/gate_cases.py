@@ -10,7 +10,9 @@ list, so the answers are read again from the rules:
 - the clauses that are to be searched have values, on the variables that they name and that the given ones name, just where the
   given clauses have;
 - of the rows by rules, each variable that is equal to a constant or to an earlier variable has something that stands for it:
-  what is equal wherever the clauses are true is found out by trying all values.
+  what is equal wherever the clauses are true is found out by trying all values;
+- of the rows of trees, those that are to be searched are the very clauses that were written as trees of disjunctions, and
+  what says that 1 is true.
 
 `close ROUNDS CLAUSES` closes these clauses, `same COUNT` and `apart COUNT` so many conjunctions of two variables, or of each
 two neighbours: the answer is how many variables have another that stands for them, and how many of these there are.
@@ -86,7 +88,7 @@ def follows(clauses, lits, hints):
 
 # ---- reading an answer again
 
-def judge(clauses, answer, is_whole):
+def judge(clauses, answer, is_whole, whole=None):
     head, *steps, kept, of = answer.split("; ")
     wants(int(of.split()[1]) == len(clauses), "how many were given")
     word, *equal = head.split()
@@ -107,11 +109,17 @@ def judge(clauses, answer, is_whole):
     if word != "refuted":
         here = sorted({abs(l) for c in searched for l in c} & set(variables))
         wants({tuple(m[v] for v in here) for m in all_models} == {tuple(m[v] for v in here) for m in models(searched, here)}, "what is searched")
+    if whole and word != "refuted" and not stands_for_inputs(stands, whole):
+        wants({frozenset(c) for c in searched} == whole, "the clauses that are trees")
     if is_whole and all_models:
         for v in variables:
             same = [w for w in variables if w < v and len({m[w] == m[v] for m in all_models}) == 1]
             wants(not same or v in stands, f"{v} is equal to {same}")
     return word, len(stands)
+
+
+def stands_for_inputs(stands, whole):
+    return any(v in stands for lits in whole for v in map(abs, lits))
 
 
 # ---- rows
@@ -178,6 +186,29 @@ def by_chance(chosen):
     return made.clauses
 
 
+TREES = {}
+
+
+def trees(chosen):
+    """Clauses by chance of which none contains another, each written as a tree of disjunctions, and its root alone."""
+    made, bits = circuit(chosen.randint(4, 7))
+
+    def tree(lits):
+        if len(lits) == 1:
+            return lits[0]
+        at = chosen.randint(1, len(lits) - 1)
+        return made.OR(tree(lits[:at]), tree(lits[at:]))
+
+    whole = []
+    for _ in range(chosen.randint(2, 6)):
+        lits = [chosen.choice([1, -1]) * b for b in chosen.sample(bits, chosen.randint(2, len(bits)))]
+        if not any(set(lits) <= set(other) or set(other) <= set(lits) for other in whole):
+            whole.append(lits)
+    for lits in whole:
+        made.clauses.append([tree(lits)])
+    return made.clauses, {frozenset(lits) for lits in whole} | {frozenset([1])}
+
+
 def cases():
     yield "# Each line but comments and empty lines is a case, answered by the same line of stdout. bench/cases/gate_cases.py writes both.", None, False
     yield "#", None, False
@@ -198,6 +229,12 @@ def cases():
     for _ in range(120):
         clauses = by_chance(chosen)
         yield row(3, clauses), clauses, False
+    yield "# clauses that are trees of gates", None, False
+    while len(TREES) < 30:
+        clauses, whole = trees(chosen)
+        line = row(3, clauses)
+        TREES[line] = whole
+        yield line, clauses, False
     yield "# many", None, False
     yield "same 20000", "19999 1", False
     yield "apart 20000", "0 0", False
@@ -221,7 +258,7 @@ def main():
                 print(f"{line}\n  {answer}\n  and not {said}")
             continue
         try:
-            word, count = judge(clauses, answer, is_whole)
+            word, count = judge(clauses, answer, is_whole, TREES.get(line))
             refuted += word == "refuted"
             stands += count
         except (Fault, ValueError, KeyError, IndexError) as fault:
