@@ -13,6 +13,7 @@ twenty SIZE: the same with twenty checks.
 path SIZE: so many checks of a path's condition on twenty words of 32 bits, which grows and shrinks by one.
 depths SIZE: a counter with two inputs, unrolled so many times on one script, with a check at each depth.
 counter SIZE: one check of a counter of so many steps with an enable and an addend, three constants a step.
+bound SIZE: the same counter on one script, with a check at each step that it is over its bound: none is.
 false SIZE: twenty checks behind so many shared comparisons of neighbours, each of one that can't be.
 """
 import random
@@ -126,12 +127,24 @@ def depths(size, rng):
         yield f"(push 1)\n(assert (= s{i + 1} #x{rng.randrange(200, 400):04x}))\n(check-sat)\n(pop 1)\n"
 
 
+def counted(i):
+    """A step of a counter with an enable and an addend."""
+    yield f"(declare-const a{i} Bool)\n(declare-const b{i} (_ BitVec 16))\n(declare-const s{i + 1} (_ BitVec 16))\n"
+    yield f"(assert (bvult b{i} #x0010))\n(assert (= s{i + 1} (ite a{i} (bvadd s{i} b{i}) s{i})))\n"
+
+
 def counter(size, rng):
     yield "(declare-const s0 (_ BitVec 16))\n(assert (= s0 #x0000))\n"
     for i in range(size):
-        yield f"(declare-const a{i} Bool)\n(declare-const b{i} (_ BitVec 16))\n(declare-const s{i + 1} (_ BitVec 16))\n"
-        yield f"(assert (bvult b{i} #x0010))\n(assert (= s{i + 1} (ite a{i} (bvadd s{i} b{i}) s{i})))\n"
+        yield from counted(i)
     yield f"(assert (bvuge s{size} #x00c8))\n(check-sat)\n"
+
+
+def bound(size, rng):
+    yield "(declare-const s0 (_ BitVec 16))\n(assert (= s0 #x0000))\n"
+    for i in range(size):
+        yield from counted(i)
+        yield f"(push 1)\n(assert (bvugt s{i + 1} #x{15 * (i + 1):04x}))\n(check-sat)\n(pop 1)\n"
 
 
 def false(size, rng):
@@ -144,7 +157,7 @@ def false(size, rng):
 KINDS = {
     "steps": steps, "short": short, "calls": calls, "deep": deep, "levels": levels, "growing": growing, "neighbours": neighbours,
     "shared": shared, "twenty": twenty, "path": path, "depths": depths,
-    "counter": counter, "false": false,
+    "counter": counter, "bound": bound, "false": false,
 }
 
 
